@@ -1,0 +1,5 @@
+pub mod Refusal
+pub mod Rule
+pub mod ProRata
+pub mod Rank
+pub mod Figures
