@@ -1,0 +1,33 @@
+// What of a total is paid now: the standing of an asset, payment rules and their law, and the piles that layers make.
+mod figures;
+mod layers;
+mod mark;
+mod pile;
+mod refusal;
+mod rule;
+mod standing;
+
+pub use figures::worked_figures;
+pub use layers::Cap;
+pub use layers::CapLayer;
+pub use layers::Floor;
+pub use layers::FloorLayer;
+pub use layers::Layer;
+pub use layers::Withhold;
+pub use layers::WithholdLayer;
+pub use mark::Mark;
+pub use pile::Over;
+pub use pile::OverRule;
+pub use pile::StandardPile;
+pub use pile::standard_payment;
+pub use pile::standard_pile;
+pub use refusal::Refusal;
+pub use refusal::RefusalDebug;
+pub use rule::PaymentRule;
+pub use rule::Whole;
+pub use rule::WholeRule;
+pub use rule::payment;
+pub use standing::AWARD_MOST;
+pub use standing::CAP_BASE_MOST;
+pub use standing::COMMITMENT_MOST;
+pub use standing::Standing;
