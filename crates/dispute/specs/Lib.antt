@@ -1,0 +1,9 @@
+pub mod Figures
+pub mod Filing
+pub mod Life
+pub mod Limits
+pub mod Paper
+pub mod Referral
+pub mod Refusal
+pub mod Replies
+pub mod Views
