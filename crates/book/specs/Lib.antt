@@ -1,0 +1,16 @@
+pub mod Limits
+pub mod Class
+pub mod Refusal
+pub mod Account
+pub mod Accounts
+pub mod State
+pub mod Entries
+pub mod Close
+pub mod Closable
+pub mod Calls
+pub mod Small
+pub mod Kept
+pub mod Find
+pub mod Book
+pub mod Outcome
+pub mod History
