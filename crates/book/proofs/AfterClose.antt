@@ -127,7 +127,7 @@ module _ (places closes : ℕ) (pools : ByClass) (xs : List Account) (kept : Kep
       of-none Availability = refl
 
 -- no share is above its claim, at every place
-shares-within : (rule : ℕ → List ℕ → List ℕ) → ((p : ℕ) (cs : List ℕ) (i : ℕ) → getD (rule p cs) i 0 ≤ getD cs i 0)
+pub shares-within : (rule : ℕ → List ℕ → List ℕ) → ((p : ℕ) (cs : List ℕ) (i : ℕ) → getD (rule p cs) i 0 ≤ getD cs i 0)
     → (p : ℕ) (class : Class) (xs : List Account) (i : ℕ) → getD (rule p (claims class xs)) i 0 ≤ claim class (at i xs)
 shares-within rule within p class xs i =
     ⊎-elim (λ h. omega (arith, within p (claims class xs) i, getD-map (claim class) xs i (opened 0 0) 0 h))

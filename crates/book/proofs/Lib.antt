@@ -4,3 +4,9 @@ pub mod Ways
 pub mod Steps
 pub mod Closes
 pub mod AfterClose
+pub mod Lookups
+pub mod Balances
+pub mod Linked
+pub mod Audits
+pub mod Charges
+pub mod Wholes

@@ -1,6 +1,7 @@
 -- What a history of calls and answers tells. A history lists its events, the newest first.
 --   closes h, year-of h    the periods closed, and the year that is open after it
 --   assets h               the assets listed, in listing order
+--   among a as             whether an asset is among these
 --   its-row a rows         the row of an asset
 --   entered-by t a h       what entries of the kinds that t tells came to, for an asset
 --   overs, unders, uplifts, resolutions, payins, invoices   for an asset; overs and unders in a class
@@ -49,6 +50,10 @@ assets (entered kind asset cents ∷ h) = assets h
 assets (readying asset ∷ h) = assets h
 assets (closing places rows left ∷ h) = assets h
 assets (refused call n ∷ h) = assets h
+
+abbrev pub among : ℕ → List ℕ → Bool
+among a [] = false
+among a (b ∷ bs) = eqb b a || among a bs
 
 abbrev pub blank-row : Row
 blank-row = record { asset = 0; award = pos 0; taken = none; share = none; payment = pos 0; balance = pos 0 }
@@ -104,7 +109,7 @@ abbrev pub entered-by : (Kind → Bool) → ℕ → History → ℤ
 entered-by told a [] = pos 0
 entered-by told a (opening asset holder ∷ h) = entered-by told a h
 entered-by told a (renewal asset award commitment is-ready sum ∷ h) = entered-by told a h
-entered-by told a (entered kind asset cents ∷ h) = entered-by told a h +ℤ cond (eqb asset a && told kind) cents (pos 0)
+entered-by told a (entered kind asset cents ∷ h) = cond (eqb asset a && told kind) (entered-by told a h +ℤ cents) (entered-by told a h)
 entered-by told a (readying asset ∷ h) = entered-by told a h
 entered-by told a (closing places rows left ∷ h) = entered-by told a h
 entered-by told a (refused call n ∷ h) = entered-by told a h
@@ -127,7 +132,7 @@ payins = entered-by is-payin
 abbrev pub invoices : ℕ → History → ℕ
 invoices a [] = 0
 invoices a (opening asset holder ∷ h) = invoices a h
-invoices a (renewal asset award commitment is-ready sum ∷ h) = invoices a h + cond (eqb asset a) sum 0
+invoices a (renewal asset award commitment is-ready sum ∷ h) = cond (eqb asset a) (invoices a h + sum) (invoices a h)
 invoices a (entered kind asset cents ∷ h) = invoices a h
 invoices a (readying asset ∷ h) = invoices a h
 invoices a (closing places rows left ∷ h) = invoices a h
@@ -179,7 +184,7 @@ abbrev pub all-unders : Class → History → ℕ
 all-unders class [] = 0
 all-unders class (opening asset holder ∷ h) = all-unders class h
 all-unders class (renewal asset award commitment is-ready sum ∷ h) = all-unders class h
-all-unders class (entered kind asset cents ∷ h) = all-unders class h + cond (is-under class kind) (natAbs cents) 0
+all-unders class (entered kind asset cents ∷ h) = cond (is-under class kind) (all-unders class h + natAbs cents) (all-unders class h)
 all-unders class (readying asset ∷ h) = all-unders class h
 all-unders class (closing places rows left ∷ h) = all-unders class h
 all-unders class (refused call n ∷ h) = all-unders class h

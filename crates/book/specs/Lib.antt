@@ -14,3 +14,5 @@ pub mod Find
 pub mod Book
 pub mod Outcome
 pub mod History
+pub mod Law
+pub mod Figures

@@ -2,6 +2,7 @@
 mod account;
 mod book;
 mod class;
+mod figures;
 mod find;
 mod limits;
 mod pooling;
@@ -16,6 +17,7 @@ pub use account::Terms;
 pub use book::Book;
 pub use class::ByClass;
 pub use class::Class;
+pub use figures::worked_figures;
 pub use limits::ASSET_MOST;
 pub use limits::BALANCE_LEAST;
 pub use limits::CLOSES_MOST;

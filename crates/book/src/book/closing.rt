@@ -100,7 +100,7 @@ impl<R: Seats<N>, P: PaymentRule, const N: usize> Book<R, P, N> {
     }
 
     // Closes the period: writes a row for each asset in listing order, and answers their count and what no claim took of each pool.
-    pub(crate) fn close(&mut self, rows: &mut [Row]) -> Result<Closed, Refusal>
+    pub fn close(&mut self, rows: &mut [Row]) -> Result<Closed, Refusal>
         ensures step { λ r. ⌜ Step N (R·SharingRule .shares) (P·PaymentRule .pays) (view (now (self .entry))) (outcome (close (length (now (rows .entry)))) (λ closed. closing (length (now (rows .entry))) (take (closed .rows) (now (rows .exit))) (closed .residues)) r) (view (now (self .exit))) ⌝ }
         ensures count { λ r. ⌜ made r (λ closed. closed .rows ≡ length (view (now (self .entry)) .accounts)) ⌝ }
         ensures rows { λ r. ⌜ now (rows .exit) ≡ cond (isOk r) (rows-of (R·SharingRule .shares) (P·PaymentRule .pays) (view (now (self .entry))) ++ drop (length (view (now (self .entry)) .accounts)) (now (rows .entry))) (now (rows .entry)) ⌝ }

@@ -6,9 +6,11 @@ ghost use Rattle.std.specs.Vec.{made};
 ghost use Rattle.book.specs.Accounts.{account as account-of};
 ghost use Rattle.book.specs.Book.{view};
 ghost use Rattle.book.specs.Calls.{unlisted};
+ghost use Rattle.book.specs.History.{History};
+ghost use Rattle.book.specs.Law.{Run, Whole};
 ghost use Rattle.book.specs.Limits.{asset-most, off};
 ghost use Rattle.book.specs.Refusal.{first, refusal};
-ghost use Rattle.book.specs.State.{empty};
+ghost use Rattle.book.specs.State.{State, empty};
 use crate::account::Account;
 use crate::book::Book;
 use crate::class::ByClass;
@@ -21,12 +23,14 @@ use std::alloc::AllocError;
 use std::alloc::Global;
 
 impl<R: Seats<N>, P: PaymentRule, const N: usize> Book<R, P, N> {
-    // An empty book, with memory for all the assets that it will take.
+    // An empty book, with memory for all the assets that it will take. The clause `law` is the law over everything that may
+    // be done with it: every cent entered is paid or still carried.
     pub fn open(heap: Global, rule: R, pile: P) -> Result<Book<R, P, N>, AllocError>
     where
         R: Drop,
         P: Drop,
         ensures value { λ r. ⌜ made r (λ book. view book ≡ empty) ⌝ }
+        ensures law { λ _. ⌜ ((h : History) (s : State) → Run N (R·SharingRule .shares) (P·PaymentRule .pays) h s → Whole (R·SharingRule .shares) (P·PaymentRule .pays) (P·PaymentRule .limits) h s) ⌝ }
     {
         let accounts = Vec::with_capacity(heap, N)?;
         Ok(Book {
