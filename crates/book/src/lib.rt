@@ -1,4 +1,6 @@
 // The settlement book: accounts, entries and closes.
+#![tactic(auto)]
+
 mod account;
 mod book;
 mod calendar;

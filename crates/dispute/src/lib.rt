@@ -1,4 +1,6 @@
 // Dispute papers from filing to resolution, each a value that is moved along and can neither be copied nor let go.
+#![tactic(auto)]
+
 mod figures;
 mod limits;
 mod paper;

@@ -1,4 +1,6 @@
 // Works one month: shares a pool by both rules, pays totals by the standard pile, and prints each step.
+#![tactic(auto)]
+
 mod entry;
 mod input;
 mod work;

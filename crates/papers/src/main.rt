@@ -1,5 +1,7 @@
 // Walks papers down every road from filing to their end, and prints each step.
 // Each `unwrap` and `unwrap_err` is proved from what the calls promise: which are taken, and which are refused.
+#![tactic(auto)]
+
 use dispute::{Filed, Note, Refusal};
 use std::io;
 

@@ -1,4 +1,6 @@
 // What of a total is paid now: the standing of an asset, payment rules and their law, and the piles that layers make.
+#![tactic(auto)]
+
 mod figures;
 mod layers;
 mod mark;

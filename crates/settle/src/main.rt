@@ -1,4 +1,6 @@
 // Reads the lines of a settlement book from standard input, and prints the transcript: pro rata, and the standard pile.
+#![tactic(auto)]
+
 use payment::standard_pile;
 use sharing::ProRata;
 use std::io::{Read, Write};

@@ -1,4 +1,6 @@
 // How a pool of cents is shared among claims: what a sharing rule is, and two of them.
+#![tactic(auto)]
+
 mod figures;
 mod pro_rata;
 mod rank;

@@ -1,4 +1,6 @@
 // Text in, text out: bytes to tokens to forms, printed lines, and a session over a book.
+#![tactic(auto)]
+
 mod answer;
 mod byte;
 mod draft;

@@ -1,4 +1,6 @@
 // Plays tables of calls on books, and prints each call with its answer. What it should print was worked from the rules.
+#![tactic(auto)]
+
 mod act;
 mod books;
 mod halved;

@@ -7,14 +7,14 @@ use Rattle.book.specs.Find.{Found}
 use Rattle.book.proofs.Places.{Before, found_all, found_more}
 use Rattle.book.proofs.find.find_with_totals.Goals as goal
 
-pub overflow-add-claims : goal.overflow-add-claims
-overflow-add-claims c =
+pub overflow_add-claims : goal.overflow_add-claims
+overflow_add-claims c =
     let f = claim c.args.class in
     let xs = c.args.accounts.now in
     record { fits = omega (arith, c.of-claims.ensures.value, sum_by_more f xs c.loop-i.i (opened 0 0) c.loop-i-test.true, sum_by-take-le f xs (c.loop-i.i + 1)) }
 
-pub overflow-add-charges : goal.overflow-add-charges
-overflow-add-charges c =
+pub overflow_add-charges : goal.overflow_add-charges
+overflow_add-charges c =
     let f = charge c.args.class in
     let xs = c.args.accounts.now in
     record { fits = omega (arith, c.of-charges.ensures.value, sum_by_more f xs c.loop-i.i (opened 0 0) c.loop-i-test.true, sum_by-take-le f xs (c.loop-i.i + 1)) }

@@ -6,8 +6,8 @@ use Rattle.book.specs.Accounts.{at, claim, claimed}
 use Rattle.book.proofs.Closes.{each_is, fill_more}
 use Rattle.book.proofs.pooling.gather_claims.Goals as goal
 
-pub overflow-add-sum : goal.overflow-add-sum
-overflow-add-sum c =
+pub overflow_add-sum : goal.overflow_add-sum
+overflow_add-sum c =
     let f = claim c.args.class in
     let xs = c.args.accounts.now in
     record { fits = omega (arith, c.of-claim.ensures.value, sum_by_more f xs c.loop-i.i (opened 0 0) c.loop-i-test.true, sum_by-take-le f xs (c.loop-i.i + 1)) }

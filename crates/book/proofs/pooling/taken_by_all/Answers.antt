@@ -8,8 +8,8 @@ use Rattle.book.proofs.Closes.{of_le}
 use Rattle.book.proofs.pooling.taken_by_all.Goals as goal
 
 -- one account more: what is taken of its charge is within it
-pub overflow-add-sum : goal.overflow-add-sum
-overflow-add-sum c =
+pub overflow_add-sum : goal.overflow_add-sum
+overflow_add-sum c =
     let xs = c.args.accounts.now in
     let i = c.loop-account.account-index in
     let part : c.of-sum.result ≤ charge c.args.class (at i xs) = omega (arith, c.of-sum.ensures.value, of_le c.args.class c.taken.result (at i xs).ledger.charges c.taken.ensures.bound.0 c.taken.ensures.bound.1) in

@@ -4,14 +4,14 @@ use Rattle.text.specs.Tokens.{digits, read_on}
 use Rattle.text.proofs.Runs.{digit_bounds, longer, next_digit, read_end, read_more, short}
 use Rattle.text.proofs.run.magnitude_of.Goals as goal
 
-pub overflow-mul-n : goal.overflow-mul-n
-overflow-mul-n c = omega (arith, short c.loop-b.n c.loop-b.b-index 14 c.loop-b.invariant.2 (omega (arith, c.requires.1)))
+pub overflow_mul-n : goal.overflow_mul-n
+overflow_mul-n c = omega (arith, short c.loop-b.n c.loop-b.b-index 14 c.loop-b.invariant.2 (omega (arith, c.requires.1)))
 
-pub overflow-sub-b : goal.overflow-sub-b
-overflow-sub-b c = (digit_bounds _ (next_digit c.args.run.now c.loop-b.b-index c.loop-b-test.true c.loop-b.invariant.1).0).0
+pub overflow_sub-b : goal.overflow_sub-b
+overflow_sub-b c = (digit_bounds _ (next_digit c.args.run.now c.loop-b.b-index c.loop-b-test.true c.loop-b.invariant.1).0).0
 
-pub overflow-add-n : goal.overflow-add-n
-overflow-add-n c =
+pub overflow_add-n : goal.overflow_add-n
+overflow_add-n c =
     let bounds = digit_bounds (get_or c.args.run.now c.loop-b.b-index 0) (next_digit c.args.run.now c.loop-b.b-index c.loop-b-test.true c.loop-b.invariant.1).0 in
     omega (arith, bounds.1, short c.loop-b.n c.loop-b.b-index 14 c.loop-b.invariant.2 (omega (arith, c.requires.1)))
 

@@ -2,8 +2,8 @@ use Rattle.std.proofs.Common.{◌≡◌, ◌+◌, ◌-◌, get_or, drop, sum, ar
 use Rattle.trials.specs.Lasts.{from_here, met_all, met_more}
 use Rattle.trials.proofs.last_first.meet.Goals as goal
 
-pub overflow-sub-later : goal.overflow-sub-later
-overflow-sub-later c =
+pub overflow_sub-later : goal.overflow_sub-later
+overflow_sub-later c =
     omega (arith, c.loop-i.invariant.0, from_here c.args.claims.now c.loop-i.i c.loop-i-test.true)
 
 pub loop-i-preserved : goal.loop-i-preserved

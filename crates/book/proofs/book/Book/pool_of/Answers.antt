@@ -15,8 +15,8 @@ taken-by-all-requires g c =
     subst (λ xs. Each (λ a. Tight a.ledger) xs × (Each (λ a. RangedTerms a.terms) xs × (charged c.args.class xs ≤ most_cents))) (sym c.deref.ensures.value)
     (tight_each g.row.N b.closes b.pools (vec_items b.accounts) (kept_by b) b.in_time, (b.terms_ranged, omega (arith, b.charges_within c.args.class)))
 
-pub overflow-add-result : goal.overflow-add-result
-overflow-add-result g c =
+pub overflow_add-result : goal.overflow_add-result
+overflow_add-result g c =
     let b = c.args.self.now in
     record { fits = omega (arith, c.of.ensures.value, c.taken-by-all.ensures.bound, ap (charged c.args.class) c.deref.ensures.value, b.charges_within c.args.class) }
 

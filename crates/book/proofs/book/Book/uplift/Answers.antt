@@ -67,8 +67,8 @@ returns g c =
       );
     }
 
-pub overflow-cast-cents : goal.overflow-cast-cents
-overflow-cast-cents g c =
+pub overflow_cast-cents : goal.overflow_cast-cents
+overflow_cast-cents g c =
     let b = c.args.self.now in
     let xs = vec_items b.accounts in
     let taken = taken_in xs c.deref.result.now c.deref.ensures.value (λ ys. entry_grounds (state ys none b.closes) uplift c.args.asset (pos c.args.cents)) c.in-ok-spot.ensures.cases in
