@@ -6,6 +6,8 @@ use Rattle.std.proofs.lemmas.Int.{ints}
 use Rattle.std.proofs.lemmas.List.Sums.{get_or-le-sum_by, sum_by_push, sum_by-set}
 use Rattle.std.proofs.lemmas.Bool.{cases_eq, cases_lt, eqb-false, or_parts}
 use Rattle.sharing.specs.Rule.{most_cents}
+use Rattle.sharing.specs.declared.rule.SharingRule.{Ghosts as Sharing}
+use Rattle.payment.specs.declared.rule.PaymentRule.{Ghosts as Paying}
 use Rattle.book.specs.Account.{EitherWay, balance, RangedLedger, RangedName, RangedTerms, opened}
 use Rattle.book.specs.Accounts.{Differ, Each, at, charge, charged, claim, claimed, listed}
 use Rattle.book.specs.Class.{both, minus, more, none, of, plus}
@@ -73,7 +75,7 @@ of_none : (class : Class) → of class none ≡ 0
 of_none Delivery = refl
 of_none Availability = refl
 
-pub kept_by : {R P : Type 0} {N : ℕ} (b : Book R P N) → Kept N b.closes b.pools (vec_items b.accounts)
+pub kept_by : {R P : Type 0} {N : ℕ} {g : Sharing R} {h : Paying P} (b : Book R P N g h) → Kept N b.closes b.pools (vec_items b.accounts)
 kept_by b = record {
   few = b.few;
   differ = b.differ;

@@ -24,7 +24,7 @@ loop-i-preserved c =
     let xs = c.args.accounts.now in
     let i = c.loop-i.i in
     let class = c.args.class in (
-      subst (λ spot. MatchOption spot (Before c.args.asset (i + 1) xs) (Found c.args.asset xs)) (sym c.first-spot-spot.ensures.value)
+      subst (λ spot. MatchOption spot (Before c.args.asset (i + 1) xs) (Found c.args.asset xs)) (sym c.first_spot-spot.ensures.value)
           (found_more c.args.asset xs i c.loop-i.spot c.loop-i-test.true c.loop-i.invariant.0),
       omega (arith, c.of-claims.ensures.value, sum_by_more (claim class) xs i (opened 0 0) c.loop-i-test.true),
       omega (arith, c.of-charges.ensures.value, sum_by_more (charge class) xs i (opened 0 0) c.loop-i-test.true),

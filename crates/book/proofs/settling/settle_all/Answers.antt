@@ -10,8 +10,8 @@ use Rattle.book.proofs.settling.settle_all.Goals as goal
 pub loop-i-init : goal.loop-i-init
 loop-i-init g c = (λ k h. absurd (not-suc-le-zero h), λ k h. refl, λ k d h. absurd (not-suc-le-zero h), λ k d h. refl)
 
-pub settle-one-settled-requires : goal.settle-one-settled-requires
-settle-one-settled-requires g c =
+pub settle_one-settled-requires : goal.settle_one-settled-requires
+settle_one-settled-requires g c =
     let i = c.loop-i.i in
     subst (λ x. Closable x (by_class (get_or c.args.delivery.now i 0) (get_or c.args.availability.now i 0))) (sym (c.loop-i.invariant.1 i (omega arith)))
     (c.requires.1.1.1 i c.loop-i-test.true)
@@ -25,12 +25,12 @@ loop-i-preserved g c =
     let a = c.args.availability.now in
     let i = c.loop-i.i in
     let same : due (at i c.loop-i.accounts) (by_class (get_or d i 0) (get_or a i 0)) ≡ due_at i xs d a = ap (λ x. due x (by_class (get_or d i 0) (get_or a i 0))) (c.loop-i.invariant.1 i (omega arith)) in (
-      fill_more (λ k. account_after pays year (due_at k xs d a)) c.loop-i.accounts i c.settle-one-settled.result.account (opened 0 0) (omega arith)
-          (c.settle-one-settled.ensures.account ∙ ap (account_after pays year) same) c.loop-i.invariant.0,
-      rest_more c.loop-i.accounts xs i c.settle-one-settled.result.account (opened 0 0) c.loop-i.invariant.1,
-      (λ k e. fill_more (λ k. row pays year (due_at k xs d a)) c.loop-i.rows i c.settle-one-settled.result.row e (omega arith)
-          (c.settle-one-settled.ensures.row ∙ ap (row pays year) same) (λ k. c.loop-i.invariant.2 k e) k),
-      λ k e. rest_more c.loop-i.rows c.args.rows.now i c.settle-one-settled.result.row e (λ k. c.loop-i.invariant.3 k e) k,
+      fill_more (λ k. account_after pays year (due_at k xs d a)) c.loop-i.accounts i c.settle_one-settled.result.account (opened 0 0) (omega arith)
+          (c.settle_one-settled.ensures.account ∙ ap (account_after pays year) same) c.loop-i.invariant.0,
+      rest_more c.loop-i.accounts xs i c.settle_one-settled.result.account (opened 0 0) c.loop-i.invariant.1,
+      (λ k e. fill_more (λ k. row pays year (due_at k xs d a)) c.loop-i.rows i c.settle_one-settled.result.row e (omega arith)
+          (c.settle_one-settled.ensures.row ∙ ap (row pays year) same) (λ k. c.loop-i.invariant.2 k e) k),
+      λ k e. rest_more c.loop-i.rows c.args.rows.now i c.settle_one-settled.result.row e (λ k. c.loop-i.invariant.3 k e) k,
     )
 
 pub returns : goal.returns

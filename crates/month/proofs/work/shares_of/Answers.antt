@@ -7,5 +7,5 @@ returns-in-Ok g c =
     let claims = c.args.claims.now in
     let written = c.in-Ok.ensures.after in
     let as_many : length c.share.new.into ≡ length claims = ap length written ∙ g.met.R.SharingRule.each c.args.pool claims in
-    let room : length c.share.new.into ≡ c.in-ok-into.into.len = omega (arith, c.in-ok-into.ensures.made) in
-    record { value = take_at c.share.new.into (drop (length c.share.new.into) c.in-ok-into.into.items) c.in-ok-into.into.len room ∙ written }
+    let room : length c.share.new.into ≡ c.in_ok-into.into.len = omega (arith, c.in_ok-into.ensures.len) in
+    record { value = take_at c.share.new.into (drop (length c.share.new.into) c.in_ok-into.into.items) c.in_ok-into.into.len room ∙ written }

@@ -12,11 +12,11 @@ returns-in-Term g c =
     let t = c.in-Term in
     record {
       made = subst
-          (λ form. Made g.row.N g.R.SharingRule.shares g.P.PaymentRule.pays form (view c.args.book.now) (booked c.enter-term.result) c.args.rows.now (view c.enter-term.new.book))
+          (λ form. Made g.row.N g.R.SharingRule.shares g.P.PaymentRule.pays form (view c.args.book.now) (booked c.enter_term.result) c.args.rows.now (view c.enter_term.new.book))
           (sym t.is)
           (subst
-          (λ z. Made g.row.N g.R.SharingRule.shares g.P.PaymentRule.pays (Term t.asset z t.commitment t.ready) (view c.args.book.now) (booked c.enter-term.result)
-          c.args.rows.now (view c.enter-term.new.book))
-          (to_z-of_z w64 t.award f) (c.enter-term.ensures.made c.args.rows.now));
-      room = c.enter-term.ensures.room;
+          (λ z. Made g.row.N g.R.SharingRule.shares g.P.PaymentRule.pays (Term t.asset z t.commitment t.ready) (view c.args.book.now) (booked c.enter_term.result)
+          c.args.rows.now (view c.enter_term.new.book))
+          (to_z-of_z w64 t.award f) (c.enter_term.ensures.made c.args.rows.now));
+      room = c.enter_term.ensures.room;
     }

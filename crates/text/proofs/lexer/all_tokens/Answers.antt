@@ -7,7 +7,7 @@ use Rattle.text.proofs.lexer.all_tokens.Goals as goal
 found : (c : goal.In-Some) → First c.args.line.now 0 c.loop-next.at (tokens (0 + c.loop-next.at) (drop c.loop-next.at c.args.line.now)) c.in-Some.next
 found c =
     subst (λ o. Given c.args.line.now 0 c.loop-next.at (tokens (0 + c.loop-next.at) (drop c.loop-next.at c.args.line.now)) (Ok o))
-    c.in-Some.is c.in-ok-next.ensures.value
+    c.in-Some.is c.in_ok-next.ensures.value
 
 pub loop-next-preserved : goal.loop-next-preserved
 loop-next-preserved c =

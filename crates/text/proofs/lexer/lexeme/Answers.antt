@@ -36,14 +36,14 @@ returns-in-Part c =
     (cases_lt at end) in
     record {
       value = λ start. at_run start bs at end some bound.1 c.span-end.ensures.all c.span-end.ensures.stops
-          ∙ ap (λ s. placed (start + at) s ∷ tokens (start + end) (drop end bs)) (sym c.token-of.ensures.value);
-      proper = c.token-of.ensures.proper;
+          ∙ ap (λ s. placed (start + at) s ∷ tokens (start + end) (drop end bs)) (sym c.token_of.ensures.value);
+      proper = c.token_of.ensures.proper;
       bound = (some, bound.1);
     }
 
 pub returns-in-Blank : goal.returns-in-Blank
 returns-in-Blank c =
-    let told = sym c.sort-of.ensures.value in
+    let told = sym c.sort_of.ensures.value in
     record {
       value = λ start. ⊎_elim (λ e. absurd (c.requires.1 (told ∙ e))) (λ e. at_foreign start c.args.bytes.now c.args.at c.requires.0 (told ∙ e)) c.in-Blank.is;
       proper = tt;

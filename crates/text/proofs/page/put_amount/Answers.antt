@@ -9,7 +9,7 @@ returns c =
     let fits : SFits w64 c.args.cents = c.ranges.cents in
     record {
       after =
-          put_same (signed_below c.args.cents c.unsigned-abs.result (simp to_z-of_z at c.if-cents-ge0.false) (simp to_z-of_z at c.unsigned-abs.ensures.value))
-          (c.put-at.ensures ⨾ c.put-number-2.ensures.after);
+          put_same (signed_below c.args.cents c.unsigned_abs.result (simp to_z-of_z at c.if-cents-ge0.false) (simp to_z-of_z at c.unsigned_abs.ensures.value))
+          (c.put-at.ensures ⨾ c.put_number-2.ensures.after);
       bound = omega arith;
     }

@@ -8,6 +8,6 @@ pub returns : goal.returns
 unfolding refused_line
 returns c =
     put_line (codes "refused") _
-    (c.put-at.ensures ⨾ c.put-number-at.ensures.after ⨾ c.put-at-2.ensures ⨾ put_same (ap decimal c.byte.ensures.value) c.put-number-at-2.ensures.after
-    ⨾ c.put-at-3.ensures ⨾ put_same (ap layer_word c.layer.ensures.value) c.put-layer-at.ensures.after
-    ⨾ c.put-at-4.ensures ⨾ put_same (ap decimal c.number.ensures.value) c.put-number-at-3.ensures.after ⨾ c.put.ensures)
+    (c.put-at.ensures ⨾ c.put_number-at.ensures.after ⨾ c.put-at-2.ensures ⨾ put_same (ap decimal c.byte.ensures.value) c.put_number-at-2.ensures.after
+    ⨾ c.put-at-3.ensures ⨾ put_same (ap layer_word c.layer.ensures.value) c.put_layer-at.ensures.after
+    ⨾ c.put-at-4.ensures ⨾ put_same (ap decimal c.number.ensures.value) c.put_number-at-3.ensures.after ⨾ c.put.ensures)

@@ -6,4 +6,4 @@ use Rattle.text.proofs.print.put_invoice.Goals as goal
 
 pub returns : goal.returns
 unfolding invoice_line
-returns c = put_line (codes "invoice") _ (c.put-at.ensures ⨾ c.put-number-at.ensures.after ⨾ c.put-at-2.ensures ⨾ c.put-number-at-2.ensures.after ⨾ c.put.ensures)
+returns c = put_line (codes "invoice") _ (c.put-at.ensures ⨾ c.put_number-at.ensures.after ⨾ c.put-at-2.ensures ⨾ c.put_number-at-2.ensures.after ⨾ c.put.ensures)

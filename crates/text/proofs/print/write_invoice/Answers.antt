@@ -2,4 +2,4 @@ use Rattle.text.proofs.Putting.{written}
 use Rattle.text.proofs.print.write_invoice.Goals as goal
 
 pub returns : goal.returns
-returns c = record { written = written c.in-ok-room.ensures.cases c.put-invoice.ensures }
+returns c = record { written = written c.in_ok-room.ensures.cases c.put_invoice.ensures }

@@ -5,5 +5,5 @@ use Rattle.text.proofs.reader.read_line.Goals as goal
 pub returns : goal.returns
 returns c =
     let line = c.args.line.now in
-    let e = c.read-whole.ensures.value in
+    let e = c.read_whole.ensures.value in
     record { value = e; law = law_of line e; only = only_of line e; back = read_back }

@@ -9,6 +9,6 @@ returns g c =
     record {
       law = settled c.«open».ensures.law
           (subst
-          (λ s. CarriedOn g.row.N g.R.SharingRule.shares g.P.PaymentRule.pays s c.args.input.now (vec_items c.in-ok-out.out) (view c.session.new.book))
-          c.in-ok-book.ensures.value c.in-ok-out.ensures.transcript);
+          (λ s. CarriedOn g.row.N g.R.SharingRule.shares g.P.PaymentRule.pays s c.args.input.now (vec_items c.in_ok-out.out) (view c.session.new.book))
+          c.in_ok-book.ensures.value c.in_ok-out.ensures.transcript);
     }

@@ -22,20 +22,20 @@ loop-at-init g c = (
   refl,
 )
 
-pub tell-line-requires : goal.tell-line-requires
-tell-line-requires g c = (
+pub tell_line-requires : goal.tell_line-requires
+tell_line-requires g c = (
   search rules,
   (c.loop-at.invariant.3, (c.loop-at.invariant.4, omega (arith, c.loop-at.invariant.0.room, some_left c.args.input.now c.loop-at.at c.loop-at-test.true))),
 )
 
 pub loop-at-preserved : goal.loop-at-preserved
 loop-at-preserved g c =
-    let e = c.line-end-end.ensures in (
-      told_more c.line-end-end.result c.loop-at.invariant.0 c.loop-at-test.true e.bound.0 e.bound.1 e.all e.stops c.tell-line.ensures.told,
+    let e = c.line_end-end.ensures in (
+      told_more c.line_end-end.result c.loop-at.invariant.0 c.loop-at-test.true e.bound.0 e.bound.1 e.all e.stops c.tell_line.ensures.told,
       omega (arith, c.loop-at.invariant.1, e.bound.0),
       omega (arith, e.bound.1),
-      c.tell-line.auto.rows ∙ c.loop-at.invariant.3,
-      c.tell-line.auto.page ∙ c.loop-at.invariant.4,
+      c.tell_line.auto.rows ∙ c.loop-at.invariant.3,
+      c.tell_line.auto.page ∙ c.loop-at.invariant.4,
     )
 
 pub returns : goal.returns

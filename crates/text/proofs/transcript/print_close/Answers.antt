@@ -5,11 +5,11 @@ use Rattle.text.specs.Line.{closed_line, row_line}
 use Rattle.text.proofs.Printed.{added_count, added_more, added_same, room_left}
 use Rattle.text.proofs.transcript.print_close.Goals as goal
 
-pub print-closed-requires : goal.print-closed-requires
-print-closed-requires c =
+pub print_closed-requires : goal.print_closed-requires
+print_closed-requires c =
     let n = c.args.count - 0 in
     let many : length (take n c.args.rows.now) ≡ n = length-take-le n c.args.rows.now (omega (arith, c.requires.1.0)) in
-    (c.print-rows.auto.page ∙ c.requires.0, omega (arith, room_left c.print-rows.ensures.added 1 (omega (arith, c.requires.1.1))))
+    (c.print_rows.auto.page ∙ c.requires.0, omega (arith, room_left c.print_rows.ensures.added 1 (omega (arith, c.requires.1.1))))
 
 pub returns : goal.returns
 returns c =
@@ -19,5 +19,5 @@ returns c =
     let same : n ≡ c.args.count = omega arith in
     record {
       added = added_same (ap (λ k. flat_map row_line (take k rows) ++ closed_line c.args.period c.args.residues) same)
-          (added_count (omega arith) (added_more c.print-rows.ensures.added c.print-closed.ensures.added));
+          (added_count (omega arith) (added_more c.print_rows.ensures.added c.print_closed.ensures.added));
     }

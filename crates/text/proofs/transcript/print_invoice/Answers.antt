@@ -3,7 +3,7 @@ use Rattle.text.proofs.Printed.{added_line, short}
 use Rattle.text.proofs.transcript.print_invoice.Goals as goal
 
 pub push-requires : goal.push-requires
-push-requires c = let h = short c.in-Ok.ensures.written (c.write-invoice.auto.page ∙ c.requires.0) in (omega (arith, c.requires.0, c.write-invoice.auto.page), omega (arith, c.requires.1))
+push-requires c = let h = short c.in-Ok.ensures.written (c.write_invoice.auto.page ∙ c.requires.0) in (omega (arith, c.requires.0, c.write_invoice.auto.page), omega (arith, c.requires.1))
 
 pub returns : goal.returns
-returns c = record { added = added_line c.in-Ok.ensures.written (c.write-invoice.auto.page ∙ c.requires.0) c.push.ensures.items c.push.ensures.room }
+returns c = record { added = added_line c.in-Ok.ensures.written (c.write_invoice.auto.page ∙ c.requires.0) c.push.ensures.items c.push.ensures.room }

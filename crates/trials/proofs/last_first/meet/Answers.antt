@@ -15,7 +15,7 @@ loop-i-preserved c =
     let left : later ≡ sum (drop (i + 1) claims) = omega (arith, c.loop-i.invariant.0, here) in (
       left,
       met_more c.args.pool claims c.loop-i.into _ i later c.min.result left
-          (omega (arith, c.min.ensures, c.«saturating-sub».ensures))
+          (omega (arith, c.min.ensures, c.«saturating_sub».ensures))
           c.loop-i-test.true (omega arith) c.loop-i.invariant.1,
     )
 

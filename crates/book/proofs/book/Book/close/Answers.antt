@@ -14,16 +14,16 @@ returns g c =
     let xs = vec_items b.accounts in
     let rule = g.R.SharingRule.shares in
     let pays = g.P.PaymentRule.pays in
-    let count : c.close-with.result.rows ≡ length xs = c.close-with.ensures.value.0 in
+    let count : c.close_with.result.rows ≡ length xs = c.close_with.ensures.value.0 in
     let as_many : length (rows rule pays s) ≡ length xs = length-map (all_dues rule s) (row pays (year s)) ∙ length-dues xs (shares rule s Delivery) (shares rule s Availability) in
     record {
       step = (
         search rules,
-        ap (λ n. take n c.close-with.new.rows) count ∙ ap (take (length xs)) c.close-with.ensures.rows
+        ap (λ n. take n c.close_with.new.rows) count ∙ ap (take (length xs)) c.close_with.ensures.rows
             ∙ take_at (rows rule pays s) (drop (length xs) c.args.rows.now) (length xs) as_many,
-        c.close-with.ensures.value.1,
-        c.close-with.ensures.after,
+        c.close_with.ensures.value.1,
+        c.close_with.ensures.after,
       );
       count = count;
-      rows = c.close-with.ensures.rows;
+      rows = c.close_with.ensures.rows;
     }

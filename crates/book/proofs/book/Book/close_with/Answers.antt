@@ -12,8 +12,8 @@ use Rattle.book.proofs.AfterClose.{all_closable, kept_after, same_work}
 use Rattle.book.proofs.book.Book.close_with.Given as given
 use Rattle.book.proofs.book.Book.close_with.Goals as goal
 
-pub settle-all-requires : goal.settle-all-requires
-settle-all-requires g c =
+pub settle_all-requires : goal.settle_all-requires
+settle_all-requires g c =
     let b = c.args.self.now in (
       search rules,
       (
@@ -21,24 +21,34 @@ settle-all-requires g c =
         (
           search rules,
           all_closable g.row.N (view b) (kept_by b) g.R.SharingRule.shares g.met.R.SharingRule.within g.P.PaymentRule.pays g.P.PaymentRule.limits g.met.P.PaymentRule.owes
-              b.in_time c.as-mut-slice.result.now c.share-class.new.shares c.share-class-2.new.shares
-              c.as-mut-slice.ensures.value c.share-class.ensures.after c.share-class-2.ensures.after,
+              b.in_time c.as_mut_slice.result.now c.share_class.new.shares c.share_class-2.new.shares
+              c.as_mut_slice.ensures.value c.share_class.ensures.after c.share_class-2.ensures.after,
         ),
       ),
     )
 
-pub invariant-of-self : goal.invariant-of-self
-invariant-of-self g c =
+pub invariant_of-self : goal.invariant_of-self
+invariant_of-self g c =
     let b = c.args.self.now in
     let s = view b in
     let rule = g.R.SharingRule.shares in
     let pays = g.P.PaymentRule.pays in
-    let written = same_work (account_after pays) s rule c.year-year.result c.as-mut-slice.result.now c.share-class.new.shares c.share-class-2.new.shares
-    c.year-year.ensures.value c.as-mut-slice.ensures.value c.share-class.ensures.after c.share-class-2.ensures.after in
-    let same : vec_items (with_items b.accounts c.settle-all.new.accounts) ≡ (closed_state rule pays s).accounts =
-    with_items_is b.accounts c.settle-all.new.accounts (search rules) ∙ c.settle-all.ensures.accounts ∙ written in
+    let written = same_work (account_after pays) s rule c.year-year.result c.as_mut_slice.result.now c.share_class.new.shares c.share_class-2.new.shares
+    c.year-year.ensures.value c.as_mut_slice.ensures.value c.share_class.ensures.after c.share_class-2.ensures.after in
+    let same : vec_items (with_items b.accounts c.settle_all.new.accounts) ≡ (closed_state rule pays s).accounts =
+    with_items_is b.accounts c.settle_all.new.accounts (search rules) ∙ c.settle_all.ensures.accounts ∙ written in
     let k = subst (Kept g.row.N (b.closes + 1) none) (sym same) (kept_after g.row.N s (kept_by b) rule g.met.R.SharingRule.within pays g.P.PaymentRule.limits g.met.P.PaymentRule.owes) in
-    (b.room, (k.few, (k.differ, (k.names, (k.terms, (k.ledgers, (k.claims, (k.charges, (omega (arith, c.requires.0), tt)))))))))
+    record {
+      room = b.room;
+      few = k.few;
+      differ = k.differ;
+      names_ranged = k.names;
+      terms_ranged = k.terms;
+      ledgers_ranged = k.ledgers;
+      claims_within = k.claims;
+      charges_within = k.charges;
+      in_time = omega (arith, c.requires.0);
+    }
 
 pub returns : goal.returns
 returns g c =
@@ -46,19 +56,19 @@ returns g c =
     let s = view b in
     let rule = g.R.SharingRule.shares in
     let pays = g.P.PaymentRule.pays in
-    let written = same_work (account_after pays) s rule c.year-year.result c.as-mut-slice.result.now c.share-class.new.shares c.share-class-2.new.shares
-    c.year-year.ensures.value c.as-mut-slice.ensures.value c.share-class.ensures.after c.share-class-2.ensures.after in
-    let rowed = same_work (row pays) s rule c.year-year.result c.as-mut-slice.result.now c.share-class.new.shares c.share-class-2.new.shares
-    c.year-year.ensures.value c.as-mut-slice.ensures.value c.share-class.ensures.after c.share-class-2.ensures.after in
-    let same : vec_items (with_items b.accounts c.settle-all.new.accounts) ≡ (closed_state rule pays s).accounts =
-    with_items_is b.accounts c.settle-all.new.accounts (search rules) ∙ c.settle-all.ensures.accounts ∙ written in
+    let written = same_work (account_after pays) s rule c.year-year.result c.as_mut_slice.result.now c.share_class.new.shares c.share_class-2.new.shares
+    c.year-year.ensures.value c.as_mut_slice.ensures.value c.share_class.ensures.after c.share_class-2.ensures.after in
+    let rowed = same_work (row pays) s rule c.year-year.result c.as_mut_slice.result.now c.share_class.new.shares c.share_class-2.new.shares
+    c.year-year.ensures.value c.as_mut_slice.ensures.value c.share_class.ensures.after c.share_class-2.ensures.after in
+    let same : vec_items (with_items b.accounts c.settle_all.new.accounts) ≡ (closed_state rule pays s).accounts =
+    with_items_is b.accounts c.settle_all.new.accounts (search rules) ∙ c.settle_all.ensures.accounts ∙ written in
     record {
       value = (
         search rules,
-        ap (λ n. by_class n c.share-class-2.result) c.share-class.ensures.value ∙ ap (by_class (residue rule s Delivery)) c.share-class-2.ensures.value,
+        ap (λ n. by_class n c.share_class-2.result) c.share_class.ensures.value ∙ ap (by_class (residue rule s Delivery)) c.share_class-2.ensures.value,
       );
       after = ap (λ xs. state xs none (b.closes + 1)) same;
       rows =
-          c.settle-all.ensures.rows ∙ ap (λ front. front ++ drop (length c.as-mut-slice.result.now) c.args.rows.now) rowed
-          ∙ ap (λ xs. map (row pays (year s)) (all_dues rule s) ++ drop (length xs) c.args.rows.now) c.as-mut-slice.ensures.value;
+          c.settle_all.ensures.rows ∙ ap (λ front. front ++ drop (length c.as_mut_slice.result.now) c.args.rows.now) rowed
+          ∙ ap (λ xs. map (row pays (year s)) (all_dues rule s) ++ drop (length xs) c.args.rows.now) c.as_mut_slice.ensures.value;
     }

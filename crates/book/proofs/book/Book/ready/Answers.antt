@@ -8,23 +8,23 @@ use Rattle.book.proofs.Steps.{changed_at}
 use Rattle.book.proofs.Verdicts.{found_in, refused_by, refused_in, taken_in}
 use Rattle.book.proofs.book.Book.ready.Goals as goal
 
-pub returns-in-err-spot : goal.returns-in-err-spot
-returns-in-err-spot g c =
+pub returns-in_err-spot : goal.returns-in_err-spot
+returns-in_err-spot g c =
     let b = c.args.self.now in
     let xs = vec_items b.accounts in
-    let why = c.in-err-spot.field-0.0 in
+    let why = c.in_err-spot.field-0.0 in
     record {
       step =
-          refused_by g.row.N g.R.SharingRule.shares g.P.PaymentRule.pays (view b) (ready c.args.asset) (λ _. readying c.args.asset) c.from-residual.result why c.from-residual.ensures.1
-          (refused_in xs c.deref.result.now c.deref.ensures.value (λ ys. ready_grounds (state ys none 0) c.args.asset) why c.in-err-spot.ensures.cases);
+          refused_by g.row.N g.R.SharingRule.shares g.P.PaymentRule.pays (view b) (ready c.args.asset) (λ _. readying c.args.asset) c.from_residual.result why c.from_residual.ensures.1
+          (refused_in xs c.deref.result.now c.deref.ensures.value (λ ys. ready_grounds (state ys none 0) c.args.asset) why c.in_err-spot.ensures.cases);
     }
 
 pub put-requires : goal.put-requires
 put-requires g c =
     let b = c.args.self.now in
     let xs = vec_items b.accounts in
-    let spot = c.in-ok-spot.spot in
-    let found = found_in xs c.deref.result.now c.deref.ensures.value c.args.asset c.in-ok-spot.spot c.in-ok-spot.ensures.value in
+    let spot = c.in_ok-spot.spot in
+    let found = found_in xs c.deref.result.now c.deref.ensures.value c.args.asset c.in_ok-spot.spot c.in_ok-spot.ensures.value in
     let ranged = (kept_at g.row.N b.closes b.pools xs c.args.asset spot (kept_by b) found).terms in
     (search rules, (found.within, kept_put g.row.N b.closes b.pools b.pools xs spot.place c.marked.result (on_terms marked spot.account) c.marked.ensures.value refl (kept_terms g.row.N b.closes b.pools xs c.args.asset (marked spot.account.terms) spot (kept_by b) found ranged)))
 
@@ -32,11 +32,11 @@ pub returns : goal.returns
 returns g c =
     let b = c.args.self.now in
     let xs = vec_items b.accounts in
-    let found = found_in xs c.deref.result.now c.deref.ensures.value c.args.asset c.in-ok-spot.spot c.in-ok-spot.ensures.value in
-    let taken = taken_in xs c.deref.result.now c.deref.ensures.value (λ ys. ready_grounds (state ys none 0) c.args.asset) c.in-ok-spot.ensures.cases in
+    let found = found_in xs c.deref.result.now c.deref.ensures.value c.args.asset c.in_ok-spot.spot c.in_ok-spot.ensures.value in
+    let taken = taken_in xs c.deref.result.now c.deref.ensures.value (λ ys. ready_grounds (state ys none 0) c.args.asset) c.in_ok-spot.ensures.cases in
     record {
       step = (
         taken,
-        changed_at (view b) (view c.put.new.self) c.args.asset (on_terms marked) c.in-ok-spot.spot c.marked.result c.put.ensures.after found c.marked.ensures.value,
+        changed_at (view b) (view c.put.new.self) c.args.asset (on_terms marked) c.in_ok-spot.spot c.marked.result c.put.ensures.after found c.marked.ensures.value,
       );
     }

@@ -16,7 +16,7 @@ returns-in-Ok g c =
       step =
           subst (λ a. Step g.row.N g.R.SharingRule.shares g.P.PaymentRule.pays s (entered resolution a c.args.resolution.cents) s') c.asset.ensures.value
           (subst (λ z. Step g.row.N g.R.SharingRule.shares g.P.PaymentRule.pays s (entered resolution c.asset.result z) s')
-          (to_z-of_z w64 c.cents.result (record { sfits = c.cents.type-inv }) ∙ c.cents.ensures.value) c.in-Ok.ensures.step);
+          (to_z-of_z w64 c.cents.result (record { sfits = c.cents.type_inv }) ∙ c.cents.ensures.value) c.in-Ok.ensures.step);
       same = tt;
     }
 
@@ -29,11 +29,11 @@ returns-in-Err g c =
       step =
           subst (λ a. Step g.row.N g.R.SharingRule.shares g.P.PaymentRule.pays s (refused (entry resolution a c.args.resolution.cents) n) s') c.asset.ensures.value
           (subst (λ z. Step g.row.N g.R.SharingRule.shares g.P.PaymentRule.pays s (refused (entry resolution c.asset.result z) n) s')
-          (to_z-of_z w64 c.cents.result (record { sfits = c.cents.type-inv }) ∙ c.cents.ensures.value) c.in-Err.ensures.step);
+          (to_z-of_z w64 c.cents.result (record { sfits = c.cents.type_inv }) ∙ c.cents.ensures.value) c.in-Err.ensures.step);
       same = refl;
     }
 
 pub post-requires : goal.post-requires
 post-requires g c =
-    let same = to_z-of_z w64 c.cents.result (record { sfits = c.cents.type-inv }) ∙ c.cents.ensures.value in
+    let same = to_z-of_z w64 c.cents.result (record { sfits = c.cents.type_inv }) ∙ c.cents.ensures.value in
     (search rules, subst (EitherWay entries_most) (sym same) (sum_within c.args.resolution.cents c.args.resolution.in_range.1))

@@ -7,22 +7,22 @@ use Rattle.book.specs.Book.{view}
 use Rattle.book.specs.Close.{claims, pooled}
 use Rattle.book.proofs.book.Book.share_class.Goals as goal
 
-pub gather-claims-sum-requires : goal.gather-claims-sum-requires
-gather-claims-sum-requires g c =
+pub gather_claims-sum-requires : goal.gather_claims-sum-requires
+gather_claims-sum-requires g c =
     let b = c.args.self.now in
     subst (λ ys. (length c.args.claims.now ≡ length ys) × (claimed c.args.class ys ≤ most_cents)) (sym c.deref.ensures.value) (c.requires.0, b.claims_within c.args.class)
 
-pub share-among-requires : goal.share-among-requires
-share-among-requires g c =
+pub share_among-requires : goal.share_among-requires
+share_among-requires g c =
     let b = c.args.self.now in
     let xs = vec_items b.accounts in
     let class = c.args.class in
-    let asked : c.gather-claims-sum.new.into ≡ claims class xs = c.gather-claims-sum.ensures.after ∙ ap (claims class) c.deref.ensures.value in
-    let as_many : length c.gather-claims-sum.new.into ≡ length xs = ap length asked ∙ length-map xs (claim class) in
+    let asked : c.gather_claims-sum.new.into ≡ claims class xs = c.gather_claims-sum.ensures.after ∙ ap (claims class) c.deref.ensures.value in
+    let as_many : length c.gather_claims-sum.new.into ≡ length xs = ap length asked ∙ length-map xs (claim class) in
     record {
       a_place_each = omega (arith, as_many, c.requires.1);
       few = omega (arith, as_many, b.few, g.met.R.Seats.seats);
-      pool_within = omega (arith, c.pool-of-pool.ensures.bound);
+      pool_within = omega (arith, c.pool_of-pool.ensures.bound);
       claims_within = omega (arith, ap sum asked, sum-map (claim class) xs, b.claims_within class);
     }
 
@@ -32,10 +32,10 @@ returns g c =
     let xs = vec_items b.accounts in
     let class = c.args.class in
     let shares = g.R.SharingRule.shares in
-    let asked : c.gather-claims-sum.new.into ≡ claims class xs = c.gather-claims-sum.ensures.after ∙ ap (claims class) c.deref.ensures.value in
-    let claimed_all : c.gather-claims-sum.result ≡ claimed class xs = c.gather-claims-sum.ensures.value ∙ ap (claimed class) c.deref.ensures.value in
-    let pool : c.pool-of-pool.result ≡ pooled (view b) class = c.pool-of-pool.ensures.value in
+    let asked : c.gather_claims-sum.new.into ≡ claims class xs = c.gather_claims-sum.ensures.after ∙ ap (claims class) c.deref.ensures.value in
+    let claimed_all : c.gather_claims-sum.result ≡ claimed class xs = c.gather_claims-sum.ensures.value ∙ ap (claimed class) c.deref.ensures.value in
+    let pool : c.pool_of-pool.result ≡ pooled (view b) class = c.pool_of-pool.ensures.value in
     record {
-      after = c.share-among.ensures.after ∙ ap (shares c.pool-of-pool.result) asked ∙ ap (λ p. shares p (claims class xs)) pool;
-      value = omega (arith, c.saturating-sub.ensures, pool, claimed_all, g.met.R.SharingRule.whole (pooled (view b) class) (claims class xs), sum-map (claim class) xs);
+      after = c.share_among.ensures.after ∙ ap (shares c.pool_of-pool.result) asked ∙ ap (λ p. shares p (claims class xs)) pool;
+      value = omega (arith, c.saturating_sub.ensures, pool, claimed_all, g.met.R.SharingRule.whole (pooled (view b) class) (claims class xs), sum-map (claim class) xs);
     }

@@ -14,56 +14,56 @@ use Rattle.book.proofs.Steps.{changed_at}
 use Rattle.book.proofs.Verdicts.{found_in, refused_by, refused_in, taken_in, uplift_most, uplift_room}
 use Rattle.book.proofs.book.Book.uplift.Goals as goal
 
-pub may-uplift-requires : goal.may-uplift-requires
-may-uplift-requires g c =
+pub may_uplift-requires : goal.may_uplift-requires
+may_uplift-requires g c =
     let b = c.args.self.now in
     let xs = vec_items b.accounts in
     subst (Each (λ a. Small a.ledger)) (sym c.deref.ensures.value) (small_each g.row.N b.closes b.pools xs (kept_by b) b.in_time)
 
-pub returns-in-err-spot : goal.returns-in-err-spot
-returns-in-err-spot g c =
+pub returns-in_err-spot : goal.returns-in_err-spot
+returns-in_err-spot g c =
     let b = c.args.self.now in
     let xs = vec_items b.accounts in
-    let why = c.in-err-spot.field-0.0 in
+    let why = c.in_err-spot.field-0.0 in
     record {
       step =
-          refused_by g.row.N g.R.SharingRule.shares g.P.PaymentRule.pays (view b) (entry uplift c.args.asset (pos c.args.cents)) (λ _. entered uplift c.args.asset (pos c.args.cents)) c.from-residual.result why c.from-residual.ensures.1
-          (refused_in xs c.deref.result.now c.deref.ensures.value (λ ys. entry_grounds (state ys none b.closes) uplift c.args.asset (pos c.args.cents)) why c.in-err-spot.ensures.cases);
+          refused_by g.row.N g.R.SharingRule.shares g.P.PaymentRule.pays (view b) (entry uplift c.args.asset (pos c.args.cents)) (λ _. entered uplift c.args.asset (pos c.args.cents)) c.from_residual.result why c.from_residual.ensures.1
+          (refused_in xs c.deref.result.now c.deref.ensures.value (λ ys. entry_grounds (state ys none b.closes) uplift c.args.asset (pos c.args.cents)) why c.in_err-spot.ensures.cases);
     }
 
 pub adding-requires : goal.adding-requires
 adding-requires g c =
     let b = c.args.self.now in
     let xs = vec_items b.accounts in
-    let found = found_in xs c.deref.result.now c.deref.ensures.value c.args.asset c.in-ok-spot.spot c.in-ok-spot.ensures.value in
-    let taken = taken_in xs c.deref.result.now c.deref.ensures.value (λ ys. entry_grounds (state ys none b.closes) uplift c.args.asset (pos c.args.cents)) c.in-ok-spot.ensures.cases in
+    let found = found_in xs c.deref.result.now c.deref.ensures.value c.args.asset c.in_ok-spot.spot c.in_ok-spot.ensures.value in
+    let taken = taken_in xs c.deref.result.now c.deref.ensures.value (λ ys. entry_grounds (state ys none b.closes) uplift c.args.asset (pos c.args.cents)) c.in_ok-spot.ensures.cases in
     let most = uplift_most (view b) c.args.asset c.args.cents taken in
-    let small = small_spot xs c.args.asset c.in-ok-spot.spot (small_each g.row.N b.closes b.pools xs (kept_by b) b.in_time) found in
+    let small = small_spot xs c.args.asset c.in_ok-spot.spot (small_each g.row.N b.closes b.pools xs (kept_by b) b.in_time) found in
     (small, subst (EitherWay entries_most) (sym (to_z_pos w64 c.args.cents (omega (arith, most)))) (omega (arith, ints), omega (arith, ints, most)))
 
 pub put-requires : goal.put-requires
 put-requires g c =
     let b = c.args.self.now in
     let xs = vec_items b.accounts in
-    let spot = c.in-ok-spot.spot in
-    let found = found_in xs c.deref.result.now c.deref.ensures.value c.args.asset c.in-ok-spot.spot c.in-ok-spot.ensures.value in
-    let taken = taken_in xs c.deref.result.now c.deref.ensures.value (λ ys. entry_grounds (state ys none b.closes) uplift c.args.asset (pos c.args.cents)) c.in-ok-spot.ensures.cases in
+    let spot = c.in_ok-spot.spot in
+    let found = found_in xs c.deref.result.now c.deref.ensures.value c.args.asset c.in_ok-spot.spot c.in_ok-spot.ensures.value in
+    let taken = taken_in xs c.deref.result.now c.deref.ensures.value (λ ys. entry_grounds (state ys none b.closes) uplift c.args.asset (pos c.args.cents)) c.in_ok-spot.ensures.cases in
     let most = uplift_most (view b) c.args.asset c.args.cents taken in
-    let written = subst (λ z. c.adding.result ≡ on_ledger (adding z) c.in-ok-spot.spot.account) (to_z_pos w64 c.args.cents (omega (arith, most))) c.adding.ensures.value in
+    let written = subst (λ z. c.adding.result ≡ on_ledger (adding z) c.in_ok-spot.spot.account) (to_z_pos w64 c.args.cents (omega (arith, most))) c.adding.ensures.value in
     (search rules, (found.within, kept_put g.row.N b.closes b.pools b.pools xs spot.place c.adding.result (on_ledger (adding (pos c.args.cents)) spot.account) written refl (kept_adding g.row.N b.closes b.pools xs c.args.asset (pos c.args.cents) spot (kept_by b) found (uplift_room (view b) c.args.asset spot found c.args.cents taken))))
 
 pub returns : goal.returns
 returns g c =
     let b = c.args.self.now in
     let xs = vec_items b.accounts in
-    let found = found_in xs c.deref.result.now c.deref.ensures.value c.args.asset c.in-ok-spot.spot c.in-ok-spot.ensures.value in
-    let taken = taken_in xs c.deref.result.now c.deref.ensures.value (λ ys. entry_grounds (state ys none b.closes) uplift c.args.asset (pos c.args.cents)) c.in-ok-spot.ensures.cases in
+    let found = found_in xs c.deref.result.now c.deref.ensures.value c.args.asset c.in_ok-spot.spot c.in_ok-spot.ensures.value in
+    let taken = taken_in xs c.deref.result.now c.deref.ensures.value (λ ys. entry_grounds (state ys none b.closes) uplift c.args.asset (pos c.args.cents)) c.in_ok-spot.ensures.cases in
     let most = uplift_most (view b) c.args.asset c.args.cents taken in
-    let written = subst (λ z. c.adding.result ≡ on_ledger (adding z) c.in-ok-spot.spot.account) (to_z_pos w64 c.args.cents (omega (arith, most))) c.adding.ensures.value in
+    let written = subst (λ z. c.adding.result ≡ on_ledger (adding z) c.in_ok-spot.spot.account) (to_z_pos w64 c.args.cents (omega (arith, most))) c.adding.ensures.value in
     record {
       step = (
         taken,
-        changed_at (view b) (view c.put.new.self) c.args.asset (on_ledger (adding (pos c.args.cents))) c.in-ok-spot.spot c.adding.result c.put.ensures.after found written,
+        changed_at (view b) (view c.put.new.self) c.args.asset (on_ledger (adding (pos c.args.cents))) c.in_ok-spot.spot c.adding.result c.put.ensures.after found written,
       );
     }
 
@@ -71,5 +71,5 @@ pub overflow_cast-cents : goal.overflow_cast-cents
 overflow_cast-cents g c =
     let b = c.args.self.now in
     let xs = vec_items b.accounts in
-    let taken = taken_in xs c.deref.result.now c.deref.ensures.value (λ ys. entry_grounds (state ys none b.closes) uplift c.args.asset (pos c.args.cents)) c.in-ok-spot.ensures.cases in
+    let taken = taken_in xs c.deref.result.now c.deref.ensures.value (λ ys. entry_grounds (state ys none b.closes) uplift c.args.asset (pos c.args.cents)) c.in_ok-spot.ensures.cases in
     record { sfits = omega (arith, uplift_most (view b) c.args.asset c.args.cents taken) }

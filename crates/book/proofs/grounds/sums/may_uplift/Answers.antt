@@ -6,21 +6,21 @@ use Rattle.book.proofs.Sound.{small_spot}
 use Rattle.book.proofs.Verdicts.{within_entry}
 use Rattle.book.proofs.grounds.sums.may_uplift.Goals as goal
 
-pub entries-past-requires : goal.entries-past-requires
-entries-past-requires c =
-    let most = within_entry c.args.asset c.args.cents (sym c.if-off-entry.ensures.value) in (
+pub entries_past-requires : goal.entries_past-requires
+entries_past-requires c =
+    let most = within_entry c.args.asset c.args.cents (sym c.if-off_entry.ensures.value) in (
       small_spot c.args.accounts.now c.args.asset c.in-Some.spot c.requires c.in-Some.ensures.cases,
       subst (EitherWay entries_most) (sym (to_z_pos w64 c.args.cents (omega (arith, most)))) (omega (arith, ints), omega (arith, ints, most)),
     )
 
-pub returns-then-entries-past : goal.returns-then-entries-past
-returns-then-entries-past c =
-    let most = within_entry c.args.asset c.args.cents (sym c.if-off-entry.ensures.value) in
-    let past : true ≡ off_way entries_most (c.in-Some.spot.account.ledger.entries +ℤ pos c.args.cents) = subst (λ z. true ≡ off_way entries_most (c.in-Some.spot.account.ledger.entries +ℤ z)) (to_z_pos w64 c.args.cents (omega (arith, most))) c.if-entries-past.ensures.value in
+pub returns-then-entries_past : goal.returns-then-entries_past
+returns-then-entries_past c =
+    let most = within_entry c.args.asset c.args.cents (sym c.if-off_entry.ensures.value) in
+    let past : true ≡ off_way entries_most (c.in-Some.spot.account.ledger.entries +ℤ pos c.args.cents) = subst (λ z. true ≡ off_way entries_most (c.in-Some.spot.account.ledger.entries +ℤ z)) (to_z_pos w64 c.args.cents (omega (arith, most))) c.if-entries_past.ensures.value in
     record { cases = search rules; value = tt }
 
 pub returns : goal.returns
 returns c =
-    let most = within_entry c.args.asset c.args.cents (sym c.if-off-entry.ensures.value) in
-    let past : false ≡ off_way entries_most (c.in-Some.spot.account.ledger.entries +ℤ pos c.args.cents) = subst (λ z. false ≡ off_way entries_most (c.in-Some.spot.account.ledger.entries +ℤ z)) (to_z_pos w64 c.args.cents (omega (arith, most))) c.if-entries-past.ensures.value in
+    let most = within_entry c.args.asset c.args.cents (sym c.if-off_entry.ensures.value) in
+    let past : false ≡ off_way entries_most (c.in-Some.spot.account.ledger.entries +ℤ pos c.args.cents) = subst (λ z. false ≡ off_way entries_most (c.in-Some.spot.account.ledger.entries +ℤ z)) (to_z_pos w64 c.args.cents (omega (arith, most))) c.if-entries_past.ensures.value in
     record { cases = search rules; value = c.in-Some.ensures.cases }
