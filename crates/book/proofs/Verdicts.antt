@@ -5,7 +5,7 @@ use Rattle.std.proofs.lemmas.Bool.{eqb-false, leb-false, ltb-false, or_parts}
 use Rattle.payment.specs.Stand.{Stand, award_most, commitment_most}
 use Rattle.sharing.specs.Rule.{most_cents}
 use Rattle.book.specs.Account.{EitherWay, RangedName, balance, opened, owes_less}
-use Rattle.book.specs.Accounts.{account, charged, claimed, listed}
+use Rattle.book.specs.Accounts.{charged, claimed, listed}
 use Rattle.book.specs.Calls.{Call, Event, Step, entry_grounds, grounds, list, over, payin, resolution, term_grounds, under, uplift, verdict}
 use Rattle.book.specs.Class.{of}
 use Rattle.book.specs.Find.{Found}

@@ -12,7 +12,7 @@ use Rattle.book.specs.Calls.{Event, Kind, Step, after_entry, closing, entered, e
 use Rattle.book.specs.Class.{none, of}
 use Rattle.book.specs.Close.{claims, closed_ledger, closed_state, due, pooled, residues as residues-at, row, rows, shares as Shares-at, taken, taken_of, total_of}
 use Rattle.book.specs.Entries.{credited, renewed}
-use Rattle.book.specs.History.{History, all_shares, all_unders, among, assets, closes, is_over, is_resolution, is_uplift, its_row, ledger_of, ledger_with, overs, payments, pools_of, residues, shares, term_award, terms_of, year_of}
+use Rattle.book.specs.History.{History, all_shares, all_unders, among, assets, is_over, is_resolution, is_uplift, its_row, ledger_of, ledger_with, overs, payments, pools_of, residues, shares, term_award, terms_of, year_of}
 use Rattle.book.specs.Law.{Accounted, Answered, EveryClose, Run, Unwasted, Whole, begun, then}
 use Rattle.book.specs.Limits.{asset_most, entry_most, off, off_sum}
 use Rattle.book.specs.State.{State, empty, state, year}

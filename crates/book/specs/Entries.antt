@@ -5,7 +5,7 @@
 --   renewed         the terms after a term is given
 --   claiming, charging, adding   a ledger with an over, an under, an uplift or a resolution
 -- Assumes nothing.
-use Rattle.std.specs.Prelude.{ℕ, ◌+◌, ◌-◌, ◌*◌, ◌/◌, min, Bool, cond, ◌&&◌, ℤ, pos, ◌+ℤ◌, ◌-ℤ◌, int_lt, nat_lt, unsigned_abs}
+use Rattle.std.specs.Prelude.{ℕ, ◌-◌, ◌*◌, ◌/◌, min, Bool, cond, ◌&&◌, ℤ, pos, ◌+ℤ◌, ◌-ℤ◌, int_lt, nat_lt, unsigned_abs}
 use Rattle.std.specs.Int.{int_max}
 use Rattle.payment.specs.declared.mark.Mark.TheVariants.{Ready}
 use Rattle.book.specs.Account.{ledger_of, terms_of}

@@ -1,7 +1,6 @@
 -- What is carried fits a machine word, since the payment lies between zero and the total.
 -- Assumes nothing.
-use Rattle.std.proofs.Common.{◌^◌, ◌<◌, ℤ, pos, negsuc, ◌-ℤ◌, ◌≤ℤ◌, arith, w64, SFits}
-use lib.Signed.{mag}
+use Rattle.std.proofs.Common.{ℤ, pos, negsuc, ◌-ℤ◌, arith, w64, SFits}
 use Rattle.std.proofs.lemmas.Int.{ints}
 use Rattle.payment.specs.Rule.{Between}
 

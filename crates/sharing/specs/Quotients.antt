@@ -1,13 +1,12 @@
 -- What pro rata gives: as many shares as claims, none above its claim, the pool spent as far as claims go, no cent lost, each within a cent.
 -- Assumes nothing.
-use Rattle.std.specs.Prelude.{◌≡◌, ℕ, zero, suc, ◌+◌, ◌-◌, ◌*◌, ◌/◌, ◌<◌, ◌≤◌, min, List, [], ◌∷◌, ◌++◌, map, length, take, sum, slice_index, slice_index_or, refl}
+use Rattle.std.specs.Prelude.{◌≡◌, ℕ, zero, suc, ◌+◌, ◌-◌, ◌*◌, ◌/◌, ◌<◌, ◌≤◌, min, List, length, take, sum, slice_index, slice_index_or}
 use Rattle.std.proofs.Common.{ap, sym, ◌∙◌, ⊎_elim, mul-add, add-mul, mul_comm, mul-le-mul_right, div-mul-le_self, mul-div_cancel, mul-zero, add-one, arith}
 use Rattle.std.proofs.Math.Nat.{lt-div-mul-add, add-mul-div_right, div-zero, zero-div}
-use Rattle.std.specs.List.{range_with_len}
 use Rattle.std.proofs.lemmas.Nat.{le-div}
 use Rattle.std.proofs.lemmas.List.FromFn.{length-map-range_with_len, get_or-map-range_with_len}
 use Rattle.std.proofs.lemmas.List.{take_all, get_or_past}
-use Rattle.std.proofs.lemmas.List.Sums.{sum_by_more, sum_by-take-le}
+use Rattle.std.proofs.lemmas.List.Sums.{sum_by_more}
 use Rattle.std.proofs.lemmas.Bool.{cases_lt}
 use Rattle.sharing.specs.ProRata.{quotient, pro_rata, NoCentLost, WithinACent}
 

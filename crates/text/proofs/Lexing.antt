@@ -1,10 +1,9 @@
 -- The next token, by the sort of the byte that it begins with.
 -- Assumes nothing.
-use Rattle.std.proofs.Common.{◌≡◌, ℕ, suc, ◌+◌, ◌-◌, ◌<◌, ◌≤◌, List, [], ◌∷◌, map, length, get_or, take, drop, Option, sym, refl, ap, ◌∙◌, subst, arith}
+use Rattle.std.proofs.Common.{◌≡◌, ℕ, suc, ◌+◌, ◌-◌, ◌<◌, ◌≤◌, List, [], ◌∷◌, map, length, get_or, take, drop, Option, refl, ap, ◌∙◌, subst, arith}
 use Rattle.std.proofs.lemmas.List.{at_drop_more}
 use Rattle.text.specs.Bytes.{sort, sort_at}
-use Rattle.text.specs.Tokens.{Piece, Placed, closing, nothing, opening, piece, pieces, placed, run_symbol, symbol, symbol_by, tokens}
-use Rattle.text.specs.declared.byte.Sort.{Sort}
+use Rattle.text.specs.Tokens.{Piece, Placed, closing, nothing, opening, placed, run_symbol, symbol, symbol_by, tokens}
 use Rattle.text.specs.Next.{stray, symbol_of}
 use Rattle.text.specs.declared.byte.Sort.TheVariants.{Blank, Close as Closing, Foreign, Open as Opening, Part}
 use Rattle.text.specs.declared.token.Token.{Token}

@@ -1,6 +1,6 @@
 -- An input has one transcript.
 -- Assumes nothing.
-use Rattle.std.proofs.Common.{◌≡◌, ℕ, ◌+◌, ◌<◌, ◌≤◌, List, [], ◌∷◌, ◌++◌, length, ℤ, Some, None, Ok, Err, Option, sym, refl, ap, ◌∙◌, subst, arith}
+use Rattle.std.proofs.Common.{◌≡◌, ℕ, List, [], ◌∷◌, ◌++◌, length, ℤ, Some, None, Option, sym, refl, ap, ◌∙◌, subst, arith}
 use Rattle.std.proofs.lemmas.List.{length_push, same_from_push}
 use Rattle.payment.specs.Stand.{Stand}
 use Rattle.book.specs.Account.{opened}
@@ -10,9 +10,7 @@ use Rattle.book.specs.Entries.{renewed}
 use Rattle.book.specs.History.{History}
 use Rattle.book.specs.State.{State, state, year}
 use Rattle.text.specs.Reading.{reading}
-use Rattle.text.specs.Session.{OnlyTranscript, Session, Transcript, begun, call_of, faulty, input_most, lines, made, request, told, unread}
-use Rattle.text.specs.declared.fault.FormFault.{FormFault}
-use Rattle.text.specs.declared.form.Form.{Form}
+use Rattle.text.specs.Session.{OnlyTranscript, Session, Transcript, begun, call_of, faulty, made, request, told, unread}
 
 -- what comes of a call, and the state behind it
 abbrev taken : (ℕ → List ℕ → List ℕ) → (Stand → ℤ → ℤ) → State → Call → Event × State

@@ -1,6 +1,6 @@
 -- A session, one line after the other.
 -- Assumes nothing.
-use Rattle.std.proofs.Common.{◌≡◌, ℕ, ◌+◌, ◌-◌, ◌*◌, ◌<◌, ◌≤◌, List, [], ◌∷◌, ◌++◌, length, get_or, take, drop, ℤ, IfOk, Ok, Err, vec_items, vec_len, vec_capacity, Result, Vec, sym, refl, ap, ◌∙◌, subst, append_assoc, arith, MatchResult}
+use Rattle.std.proofs.Common.{◌≡◌, ℕ, ◌+◌, ◌-◌, ◌<◌, ◌≤◌, List, [], ◌∷◌, ◌++◌, length, get_or, take, drop, ℤ, IfOk, Ok, Err, vec_items, Result, Vec, sym, refl, ap, ◌∙◌, subst, append_assoc, arith, MatchResult}
 use Rattle.std.specs.declared.alloc.Global.{Global}
 use Rattle.std.proofs.lemmas.List.{append-nil, length-append, length_push}
 use Rattle.payment.specs.Rule.{Limit}
@@ -9,12 +9,11 @@ use Rattle.book.specs.History.{History}
 use Rattle.book.specs.Law.{Run, Whole, begun as begun-run, then}
 use Rattle.book.specs.State.{State, empty}
 use Rattle.book.specs.declared.row.Row.{Row}
-use Rattle.text.specs.Answer.{Came, Entered, heights, text}
+use Rattle.text.specs.Answer.{Came, Entered, text}
 use Rattle.text.specs.Line.{fault_line}
 use Rattle.text.specs.Session.{Session, Transcript, begun, faulty, input_most, lines, made, told, unread}
 use Rattle.text.specs.Settling.{CarriedOn, Settled}
-use Rattle.text.specs.Telling.{LineTold, LinesTold, needed}
-use Rattle.text.specs.Transcript.{Added}
+use Rattle.text.specs.Telling.{LineTold, LinesTold}
 use Rattle.text.specs.declared.answer.Answer.{Answer}
 use Rattle.text.specs.declared.fault.Fault.{Fault}
 use Rattle.text.specs.declared.fault.Fault.TheVariants.{Book as ByBook, Form as InForm}

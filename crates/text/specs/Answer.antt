@@ -5,7 +5,7 @@
 --   Came         a line's answer: either the line cannot be read and no call is made, or the call of its form is made, and the
 --                answer prints what the rules say
 -- Assumes nothing.
-use Rattle.std.specs.Prelude.{◌≡◌, ℕ, ◌+◌, ◌-◌, ◌*◌, ◌≤◌, cond, eqb, List, [], ◌∷◌, ◌++◌, length, take, ℤ, pos, Ok, Err, Result}
+use Rattle.std.specs.Prelude.{◌≡◌, ℕ, ◌+◌, ◌-◌, ◌*◌, ◌≤◌, List, [], ◌++◌, take, ℤ, Ok, Err, Result}
 use Rattle.std.specs.List.{flat_map}
 use Rattle.payment.specs.Stand.{Stand}
 use Rattle.book.specs.Calls.{Event, Step}

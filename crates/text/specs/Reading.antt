@@ -6,7 +6,7 @@
 --   formed      the form of a word and of its values
 --   reading     a line as the reader takes it: first its length, then whether all is tokens, then their form, then the ranges
 -- Assumes nothing.
-use Rattle.std.specs.Prelude.{ℕ, ◌+◌, Bool, false, cond, not, ◌&&◌, List, [], ◌∷◌, length, drop, ℤ, pos, neg_ℤ, Some, None, Ok, Err, Option, Result, ◌==◌, int_le, nat_lt, slice_index_or, unsigned_abs}
+use Rattle.std.specs.Prelude.{ℕ, ◌+◌, Bool, false, cond, ◌&&◌, List, [], ◌∷◌, length, drop, ℤ, pos, neg_ℤ, Some, None, Ok, Err, Option, Result, ◌==◌, int_le, nat_lt, slice_index_or, unsigned_abs}
 use Rattle.payment.specs.Stand.{award_most, commitment_most}
 use Rattle.book.specs.Limits.{asset_most, entry_most, holder_most}
 use Rattle.book.specs.declared.class.Class.{Class}

@@ -3,7 +3,7 @@
 --   LineTold    one line was told, and what comes of it printed
 --   LinesTold   so many lines of an input were told
 -- Assumes nothing.
-use Rattle.std.specs.Prelude.{◌≡◌, ℕ, ◌+◌, ◌-◌, ◌*◌, ◌≤◌, List, [], ◌∷◌, ◌++◌, length, drop, ℤ, vec_items, vec_len, vec_capacity, Result, Vec}
+use Rattle.std.specs.Prelude.{◌≡◌, ℕ, ◌+◌, ◌-◌, ◌*◌, ◌≤◌, List, ◌++◌, length, drop, ℤ, vec_items, vec_len, vec_capacity, Result, Vec}
 use Rattle.std.specs.declared.alloc.Global.{Global}
 use Rattle.payment.specs.Stand.{Stand}
 use Rattle.book.specs.History.{History}

@@ -7,7 +7,7 @@
 --   Symbol     what a piece is: a bracket, a word or a number with its bytes, or nothing
 --   tokens     the pieces, each read as a symbol
 -- Assumes nothing.
-use Rattle.std.specs.Prelude.{ℕ, ◌+◌, ◌-◌, ◌*◌, Bool, true, false, cond, not, ◌&&◌, ◌||◌, List, [], ◌∷◌, map, length, drop, ℤ, pos, neg_ℤ, ◌==◌, nat_le, slice_index}
+use Rattle.std.specs.Prelude.{ℕ, ◌+◌, ◌-◌, ◌*◌, Bool, true, cond, not, ◌&&◌, ◌||◌, List, [], ◌∷◌, map, length, drop, ℤ, pos, neg_ℤ, ◌==◌, nat_le, slice_index}
 use Rattle.text.specs.Bytes.{part, sort, within}
 use Rattle.text.specs.declared.byte.Sort.{Sort}
 use Rattle.text.specs.declared.byte.Sort.TheVariants.{Blank, Close, Foreign, Open, Part}

@@ -1,5 +1,5 @@
 use Rattle.std.proofs.Common.{◌+◌, drop, Ok, sym, ap, ◌∙◌, subst}
-use Rattle.text.specs.Next.{First, Given, first_nothing, symbol_of}
+use Rattle.text.specs.Next.{First, Given, first_nothing}
 use Rattle.text.specs.Tokens.{tokens}
 use Rattle.text.proofs.Lexing.{stray_later}
 use Rattle.text.proofs.lexer.all_tokens.Goals as goal

@@ -1,4 +1,4 @@
-use Rattle.std.proofs.Common.{◌≡◌, ◌+◌, ◌-◌, ◌*◌, ◌<◌, ◌≤◌, true, get_or, drop, ap, ◌∙◌, arith}
+use Rattle.std.proofs.Common.{◌≡◌, ◌+◌, ◌*◌, ◌≤◌, true, get_or, drop, ap, ◌∙◌, arith}
 use Rattle.text.specs.Bytes.{within}
 use Rattle.text.specs.Tokens.{digits, read_on}
 use Rattle.text.proofs.Runs.{digit_bounds, longer, next_digit, read_end, read_more, short}

@@ -1,7 +1,7 @@
-use Rattle.std.proofs.Common.{[], ◌++◌, length, drop, vec_items, sym, refl, ap, ◌∙◌, subst, arith, rules}
+use Rattle.std.proofs.Common.{[], ◌++◌, vec_items, sym, refl, ap, ◌∙◌, subst, arith, rules}
 use Rattle.std.proofs.lemmas.List.{append-nil}
 use Rattle.book.specs.Book.{view}
-use Rattle.text.specs.Session.{Session, begun, lines}
+use Rattle.text.specs.Session.{Session, begun}
 use Rattle.text.proofs.Lining.{none_left, some_left}
 use Rattle.text.proofs.Tellings.{told_more}
 use Rattle.text.proofs.sessions.tell_lines.Goals as goal

@@ -1,4 +1,4 @@
-use Rattle.std.proofs.Common.{◌++◌, vec_items, ap, ◌∙◌, arith}
+use Rattle.std.proofs.Common.{◌∙◌, arith}
 use Rattle.text.proofs.Printed.{added_line, short}
 use Rattle.text.proofs.transcript.print_row.Goals as goal
 

@@ -1,7 +1,6 @@
-use Rattle.std.proofs.Common.{◌≡◌, length, take}
+use Rattle.std.proofs.Common.{take}
 use Rattle.std.specs.List.{flat_map}
 use Rattle.text.specs.Line.{row_line}
-use Rattle.text.specs.Page.{page_least}
 use Rattle.text.specs.Transcript.{Added}
 use Rattle.text.proofs.transcript.print_rows.Given as goal
 

@@ -1,5 +1,4 @@
 use Rattle.std.proofs.Common.{[], ◌∷◌, ◌++◌, vec_items, sym, ap, ◌∙◌, subst, arith}
-use Rattle.book.specs.Account.{opened}
 use Rattle.book.specs.Book.{view}
 use Rattle.book.specs.Calls.{grounds, list, opening}
 use Rattle.book.specs.Class.{none}
