@@ -10,7 +10,7 @@ use Rattle.book.specs.Account.{award_in_force, balance, opened, standing}
 use Rattle.book.specs.Accounts.{account, at, charge, charged, claim, claimed, listed}
 use Rattle.book.specs.Calls.{Event, Kind, Step, after_entry, closing, entered, entry, grounds, marked, on_ledger, on_terms, opening, over, paid, payin, ready, readying, refused, renewal, resolution, term, under, uplift, verdict}
 use Rattle.book.specs.Class.{none, of}
-use Rattle.book.specs.Close.{claims, closed_ledger, closed_state, due, pooled, residues as residues-at, row, rows, shares as Shares-at, taken, taken_of, total_of}
+use Rattle.book.specs.Close.{claims, closed_ledger, closed_state, due, pooled, residues as residues_at, row, rows, shares as shares_at, taken, taken_of, total_of}
 use Rattle.book.specs.Entries.{credited, renewed}
 use Rattle.book.specs.History.{History, all_shares, all_unders, among, assets, is_over, is_resolution, is_uplift, its_row, ledger_of, ledger_with, overs, payments, pools_of, residues, shares, term_award, terms_of, year_of}
 use Rattle.book.specs.Law.{Accounted, Answered, EveryClose, Run, Unwasted, Whole, begun, then}
@@ -95,14 +95,14 @@ module _ (serves : ℕ) (rule : ℕ → List ℕ → List ℕ) (each : (p : ℕ)
     (pays : Stand → ℤ → ℤ) (limits : List Limit) (owes : (s : Stand) (t : ℤ) → InRange s → Owed limits s t (pays s t)) where
   -- one close of a state
   module _ (s : State) where
-    listed_shares : (class : Class) → map (share_of class) (rows rule pays s) ≡ Shares-at rule s class
+    listed_shares : (class : Class) → map (share_of class) (rows rule pays s) ≡ shares_at rule s class
     listed_shares class =
-        shares_listed pays (year s) class s.accounts (Shares-at rule s Delivery) (Shares-at rule s Availability) (as_many Delivery) (as_many Availability) ∙ of_list class
+        shares_listed pays (year s) class s.accounts (shares_at rule s Delivery) (shares_at rule s Availability) (as_many Delivery) (as_many Availability) ∙ of_list class
       where
-        as_many : (k : Class) → length (Shares-at rule s k) ≡ length s.accounts
+        as_many : (k : Class) → length (shares_at rule s k) ≡ length s.accounts
         as_many k = each (pooled s k) (claims k s.accounts) ∙ length-map s.accounts (claim k)
 
-        of_list : (k : Class) → list_of k (Shares-at rule s Delivery) (Shares-at rule s Availability) ≡ Shares-at rule s k
+        of_list : (k : Class) → list_of k (shares_at rule s Delivery) (shares_at rule s Availability) ≡ shares_at rule s k
         of_list Delivery = refl
         of_list Availability = refl
 
@@ -111,16 +111,16 @@ module _ (serves : ℕ) (rule : ℕ → List ℕ → List ℕ) (each : (p : ℕ)
         sym (sum-map (share_of class) (rows rule pays s)) ∙ ap sum (listed_shares class) ∙ whole (pooled s class) (claims class s.accounts)
         ∙ ap (min (pooled s class)) (sum-map (claim class) s.accounts)
 
-    left_of : (class : Class) → of class (residues-at rule s) ≡ pooled s class - min (pooled s class) (claimed class s.accounts)
+    left_of : (class : Class) → of class (residues_at rule s) ≡ pooled s class - min (pooled s class) (claimed class s.accounts)
     left_of Delivery = ap (λ n. pooled s Delivery - n) (whole (pooled s Delivery) (claims Delivery s.accounts) ∙ ap (min (pooled s Delivery)) (sum-map (claim Delivery) s.accounts))
     left_of Availability = ap (λ n. pooled s Availability - n) (whole (pooled s Availability) (claims Availability s.accounts) ∙ ap (min (pooled s Availability)) (sum-map (claim Availability) s.accounts))
 
     -- nothing of a pool is lost
-    all_pooled : (class : Class) (written : List Row) (left : ByClass) → written ≡ rows rule pays s → left ≡ residues-at rule s
+    all_pooled : (class : Class) (written : List Row) (left : ByClass) → written ≡ rows rule pays s → left ≡ residues_at rule s
         → sum_by (share_of class) written + of class left ≡ pooled s class
     all_pooled class written left rows_are left_is = omega (arith, ap (sum_by (share_of class)) rows_are, summed class, ap (of class) left_is, left_of class)
 
-    accounted_closing : (class : Class) (h : History) (places : ℕ) (written : List Row) (left : ByClass) → written ≡ rows rule pays s → left ≡ residues-at rule s
+    accounted_closing : (class : Class) (h : History) (places : ℕ) (written : List Row) (left : ByClass) → written ≡ rows rule pays s → left ≡ residues_at rule s
         → Accounted class h s → Accounted class (closing places written left ∷ h) (closed_state rule pays s)
     accounted_closing class h places written left rows_are left_is acc =
         omega (
@@ -131,7 +131,7 @@ module _ (serves : ℕ) (rule : ℕ → List ℕ → List ℕ) (each : (p : ℕ)
           ap (of class) left_is,
           left_of class,
           of_none class,
-          charged_closed pays (year s) class s.accounts (Shares-at rule s Delivery) (Shares-at rule s Availability),
+          charged_closed pays (year s) class s.accounts (shares_at rule s Delivery) (shares_at rule s Availability),
         )
       where
         of_none : (class : Class) → of class none ≡ 0
@@ -139,17 +139,17 @@ module _ (serves : ℕ) (rule : ℕ → List ℕ → List ℕ) (each : (p : ℕ)
         of_none Availability = refl
 
     -- residue is left only where every claim of the class is met
-    all_shared : (class : Class) → 0 < of class (residues-at rule s) → map (share_of class) (rows rule pays s) ≡ claims class s.accounts
+    all_shared : (class : Class) → 0 < of class (residues_at rule s) → map (share_of class) (rows rule pays s) ≡ claims class s.accounts
     all_shared class some =
         listed_shares class
-        ∙ same_if_summed (Shares-at rule s class) (claims class s.accounts) (each (pooled s class) (claims class s.accounts)) (within (pooled s class) (claims class s.accounts))
+        ∙ same_if_summed (shares_at rule s class) (claims class s.accounts) (each (pooled s class) (claims class s.accounts)) (within (pooled s class) (claims class s.accounts))
         (omega (arith, whole (pooled s class) (claims class s.accounts), sum-map (claim class) s.accounts, left_of class, some))
 
     unwasted_closing : (h : History) (written : List Row) (left : ByClass) → Linked h s → ((class : Class) (a : ℕ) → Met class a h)
-        → written ≡ rows rule pays s → left ≡ residues-at rule s → Unwasted written left h
+        → written ≡ rows rule pays s → left ≡ residues_at rule s → Unwasted written left h
     unwasted_closing h written left link met rows_are left_is class some a =
         let full = all_shared class (omega (arith, some, ap (of class) left_is)) in
-        let reached = all_met pays (year s) class a s.accounts (Shares-at rule s Delivery) (Shares-at rule s Availability) full in
+        let reached = all_met pays (year s) class a s.accounts (shares_at rule s Delivery) (shares_at rule s Availability) full in
         let claims_are = ap (λ l. of class l.claims) (link.ledger a) in
         let share_is = ap (λ rs. share_of class (its_row a rs)) rows_are in
         at_most class (omega (arith, reached, claims_are, share_is)) (met class a)
@@ -191,7 +191,7 @@ module _ (serves : ℕ) (rule : ℕ → List ℕ → List ℕ) (each : (p : ℕ)
         let x = account a s.accounts in
         let share = (its_row a written).share in
         let is_listed : listed a s.accounts ≡ true = sym (among_listed a s.accounts) ∙ ap (among a) link.order ∙ is_among in
-        ap (its_row a) rows_are ∙ row_closed pays (year s) a s.accounts (Shares-at rule s Delivery) (Shares-at rule s Availability) is_listed
+        ap (its_row a) rows_are ∙ row_closed pays (year s) a s.accounts (shares_at rule s Delivery) (shares_at rule s Availability) is_listed
         ∙ ap (λ rs. row pays (year s) (due x (its_row a rs).share)) (sym rows_are)
         ∙ ap (λ y. row pays y (due x share)) (same_year h s link)
         ∙ ap (λ t. row_for pays x.asset (standing (year_of h) t) (award_in_force (year_of h) t) share x.ledger) (link.terms a)
@@ -223,15 +223,15 @@ module _ (serves : ℕ) (rule : ℕ → List ℕ → List ℕ) (each : (p : ℕ)
           ∙ ap (λ p. balance (closed_ledger (term_award a (year_of h) h) (its_row a written).taken (its_row a written).share p (ledger_of a h))) (sym (ap (λ r. r.payment) row_is))
 
     -- shares and residue are the open pool with all that is taken
-    pooled_told : (class : Class) (h : History) (written : List Row) (left : ByClass) → Linked h s → written ≡ rows rule pays s → left ≡ residues-at rule s
+    pooled_told : (class : Class) (h : History) (written : List Row) (left : ByClass) → Linked h s → written ≡ rows rule pays s → left ≡ residues_at rule s
         → sum_by (share_of class) written + of class left ≡ of class (pools_of h) + sum_by (λ r. of class r.taken) written
     pooled_told class h written left link rows_are left_is =
         all_pooled class written left rows_are left_is
         ∙ ap (λ p. of class p + sum_by (taken_of (year s) class) s.accounts) link.pools
         ∙ ap (λ n. of class (pools_of h) + n)
-        (sym (ap (sum_by (λ r. of class r.taken)) rows_are ∙ taken_listed pays (year s) class s.accounts (Shares-at rule s Delivery) (Shares-at rule s Availability)))
+        (sym (ap (sum_by (λ r. of class r.taken)) rows_are ∙ taken_listed pays (year s) class s.accounts (shares_at rule s Delivery) (shares_at rule s Availability)))
 
-    answered_closing : (h : History) (written : List Row) (left : ByClass) → Linked h s → written ≡ rows rule pays s → left ≡ residues-at rule s → Answered rule pays limits written left h
+    answered_closing : (h : History) (written : List Row) (left : ByClass) → Linked h s → written ≡ rows rule pays s → left ≡ residues_at rule s → Answered rule pays limits written left h
     unfolding told told_total
     answered_closing h written left link rows_are left_is =
         let owed = λ (a : ℕ). owes (standing (year_of h) (terms_of a h)) (told_total a h written) (standing_within (year_of h) (terms_of a h) (link.ranged a)) in
@@ -239,7 +239,7 @@ module _ (serves : ℕ) (rule : ℕ → List ℕ → List ℕ) (each : (p : ℕ)
           award = λ a is_among. ap (λ r. r.award) (row_told h written link rows_are a is_among);
           taken = taken_told h written link rows_are;
           pooled = λ class. pooled_told class h written left link rows_are left_is;
-          in_order = ap (map (λ r. r.asset)) rows_are ∙ rows_order pays (year s) s.accounts (Shares-at rule s Delivery) (Shares-at rule s Availability) ∙ link.order;
+          in_order = ap (map (λ r. r.asset)) rows_are ∙ rows_order pays (year s) s.accounts (shares_at rule s Delivery) (shares_at rule s Availability) ∙ link.order;
           shared = λ class.
               ap (map (share_of class)) rows_are ∙ listed_shares class
               ∙ ap (λ p. rule p (claims class s.accounts))
@@ -264,7 +264,7 @@ module _ (serves : ℕ) (rule : ℕ → List ℕ → List ℕ) (each : (p : ℕ)
   within_row : (h : History) (s : State) (written : List Row) → Linked h s → written ≡ rows rule pays s → (class : Class) (a : ℕ)
       → (of class (its_row a written).taken ≤ of class (ledger_of a h).charges) × (of class (its_row a written).share ≤ of class (ledger_of a h).claims)
   within_row h s written link rows_are class a =
-      let both = row_within pays (year s) a class s.accounts (Shares-at rule s Delivery) (Shares-at rule s Availability)
+      let both = row_within pays (year s) a class s.accounts (shares_at rule s Delivery) (shares_at rule s Availability)
       (shares_within rule within (pooled s Delivery) Delivery s.accounts) (shares_within rule within (pooled s Availability) Availability s.accounts) in (
         omega (arith, both.0, ap (λ rs. of class (its_row a rs).taken) rows_are, ap (λ l. of class l.charges) (link.ledger a)),
         omega (arith, both.1, ap (λ rs. of class (its_row a rs).share) rows_are, ap (λ l. of class l.claims) (link.ledger a)),

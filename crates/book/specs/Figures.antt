@@ -4,7 +4,7 @@
 --   Figures              each row is what the rules give
 -- Assumes nothing.
 use Rattle.std.specs.Prelude.{◌≡◌, ℕ, List, [], ◌∷◌, ℤ, pos, neg_ℤ}
-use Rattle.std.specs.List.{AllByRecursion as All}
+use Rattle.std.specs.List.{AllByRecursion}
 use Rattle.book.specs.Account.{ledger_of}
 use Rattle.book.specs.Class.{by_class, none}
 use Rattle.book.specs.Entries.{credited, invoice}
@@ -34,8 +34,8 @@ abbrev pub payins : List Paid
 payins = record { charges = by_class 100 50; general = neg_ℤ (pos 20); cents = 120; charges_left = by_class 0 30; general_left = neg_ℤ (pos 20) } ∷ []
 
 abbrev pub InvoiceFigures : Type 0
-InvoiceFigures = All (λ r. invoice r.last r.award r.carried ≡ r.asked) invoices
+InvoiceFigures = AllByRecursion (λ r. invoice r.last r.award r.carried ≡ r.asked) invoices
 
 abbrev pub PayinFigures : Type 0
 PayinFigures =
-    All (λ r. credited r.cents (ledger_of r.general (pos 0) none r.charges) ≡ ledger_of r.general_left (pos 0) none r.charges_left) payins
+    AllByRecursion (λ r. credited r.cents (ledger_of r.general (pos 0) none r.charges) ≡ ledger_of r.general_left (pos 0) none r.charges_left) payins

@@ -1,6 +1,6 @@
 -- Every life of a filed paper keeps the law, shown stage by stage from the last. Assumes nothing.
 use Rattle.std.proofs.Common.{◌≡◌, ℕ, ◌+◌, ◌<◌, ◌≤◌, false, List, [], ◌∷◌, ℤ, None, refl, arith}
-use Rattle.std.specs.List.{AllByRecursion as All}
+use Rattle.std.specs.List.{AllByRecursion}
 use Rattle.std.proofs.lemmas.Bool.Decides.{nat_tests}
 use Rattle.dispute.specs.Filing.{filed_withdrawn, offer_refused, offered}
 use Rattle.dispute.specs.Life.{Due, Entry, Lawful, Life, Settled, ◌answered◌, by_acceptance, by_determination, by_lapse, ended, of_filed, of_referred, of_served, resolutions, settled_once, settling, stood, then, unsettled}
@@ -28,7 +28,7 @@ after_resolution (then (of_served s) life) = elim s [ ]
 after_resolution (then (of_referred s) life) = elim s [ ]
 
 abbrev Quiet : List Entry → Type 0
-Quiet log = All (λ e. settling e ≡ false) log
+Quiet log = AllByRecursion (λ e. settling e ≡ false) log
 
 -- what stood is quiet and there is no resolution, or there is one of this asset, whose cents have the form
 data Outcome (asset : ℕ) (Form : ℤ → List Entry → Type 0) (log : List Entry) : List (ℕ × ℤ) → Type 0 where

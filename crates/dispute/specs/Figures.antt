@@ -4,7 +4,7 @@
 --   Figures   each reply is refused, or not, as its row says
 -- Assumes nothing.
 use Rattle.std.specs.Prelude.{◌≡◌, ℕ, List, [], ◌∷◌, Some, None, Option}
-use Rattle.std.specs.List.{AllByRecursion as All}
+use Rattle.std.specs.List.{AllByRecursion}
 use Rattle.dispute.specs.Paper.{Reply, accept, lapse, reject}
 use Rattle.dispute.specs.Replies.{reply_ground}
 
@@ -30,4 +30,4 @@ rows =
     ∷ []
 
 abbrev pub Figures : Type 0
-Figures = All (λ r. reply_ground 100 r.act ≡ r.by) rows
+Figures = AllByRecursion (λ r. reply_ground 100 r.act ≡ r.by) rows

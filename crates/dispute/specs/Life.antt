@@ -11,7 +11,7 @@
 --   Lawful a p      so is every life of the paper p
 -- Assumes nothing.
 use Rattle.std.specs.Prelude.{◌≡◌, ℕ, ◌+◌, ◌<◌, ◌≤◌, Bool, true, false, List, [], ◌∷◌, ℤ}
-use Rattle.std.specs.List.{AllByRecursion as All}
+use Rattle.std.specs.List.{AllByRecursion}
 use Rattle.dispute.specs.Filing.{FiledStep}
 use Rattle.dispute.specs.Limits.{reply_days}
 use Rattle.dispute.specs.Paper.{Act, Answer, Paper, accept, determine, lapse, offer, refused, reject, reply, resolution, taken, withdraw}
@@ -66,7 +66,7 @@ pub data Due (asset : ℕ) (cents : ℤ) : List Entry → Type 0 where
       → Due asset cents (offer sum since answered taken ∷ reply (reject day) answered taken ∷ determine cents answered resolution asset cents ∷ [])
 
 pub data Settled (asset : ℕ) (log : List Entry) : Type 0 where
-  unsettled : resolutions log ≡ [] → All (λ e. settling e ≡ false) (stood log) → Settled asset log
+  unsettled : resolutions log ≡ [] → AllByRecursion (λ e. settling e ≡ false) (stood log) → Settled asset log
   settled_once : (cents : ℤ) → resolutions log ≡ (asset, cents) ∷ [] → Due asset cents (stood log) → Settled asset log
 
 abbrev pub Lawful : ℕ → Paper → Type 0

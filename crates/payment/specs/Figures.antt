@@ -3,7 +3,7 @@
 --     rows      the table, in cents
 --     Figures   the standard pile pays what each row says
 use Rattle.std.specs.Prelude.{◌≡◌, List, [], ◌∷◌, ℤ, pos, neg_ℤ}
-use Rattle.std.specs.List.{AllByRecursion as All}
+use Rattle.std.specs.List.{AllByRecursion}
 use Rattle.payment.specs.Pile.{standard}
 use Rattle.payment.specs.Stand.{Stand, stand}
 use Rattle.payment.specs.declared.mark.Mark.TheVariants.{Ready, ReadyNext}
@@ -31,4 +31,4 @@ rows =
     ∷ []
 
 abbrev pub Figures : Type 0
-Figures = All (λ r. standard r.at r.total ≡ r.paid) rows
+Figures = AllByRecursion (λ r. standard r.at r.total ≡ r.paid) rows

@@ -8,7 +8,7 @@
 --     Owed ls s t p    the law: p lies between zero and the total t, and keeps each of these limits
 --     pays_whole       what whole pays: the total
 use Rattle.std.specs.Prelude.{List, ℤ, pos, ◌*ℤ◌, ◌≤ℤ◌}
-use Rattle.std.specs.List.{AllByRecursion as All}
+use Rattle.std.specs.List.{AllByRecursion}
 use Rattle.payment.specs.Stand.{Stand}
 
 pub record Between (total payment : ℤ) : Type 0 where
@@ -27,7 +27,7 @@ Kept floored s payment = pos 0 ≤ℤ s.award → pos 0 ≤ℤ payment
 Kept capped s payment = pos 0 ≤ℤ s.award → payment ≤ℤ most_paid s
 
 abbrev pub AllKept : List Limit → Stand → ℤ → Type 0
-AllKept limits s payment = All (λ limit. Kept limit s payment) limits
+AllKept limits s payment = AllByRecursion (λ limit. Kept limit s payment) limits
 
 pub record Owed (limits : List Limit) (s : Stand) (total payment : ℤ) : Type 0 where
   pub between : Between total payment

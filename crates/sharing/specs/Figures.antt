@@ -3,7 +3,7 @@
 --   Figures   each row is what the rules give
 -- Assumes nothing.
 use Rattle.std.specs.Prelude.{◌≡◌, ℕ, List, [], ◌∷◌}
-use Rattle.std.specs.List.{AllByRecursion as All}
+use Rattle.std.specs.List.{AllByRecursion}
 use Rattle.sharing.specs.ProRata.{pro_rata}
 use Rattle.sharing.specs.Rank.{by_rank}
 
@@ -20,4 +20,4 @@ rows =
     ∷ []
 
 abbrev pub Figures : Type 0
-Figures = All (λ row. (pro_rata row.pool row.claims ≡ row.parts) × (by_rank row.pool row.claims ≡ row.ranked)) rows
+Figures = AllByRecursion (λ row. (pro_rata row.pool row.claims ≡ row.parts) × (by_rank row.pool row.claims ≡ row.ranked)) rows

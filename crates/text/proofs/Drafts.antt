@@ -3,7 +3,7 @@
 -- Assumes nothing.
 use Rattle.std.proofs.Common.{◌≡◌, ℕ, true, false, cond, List, [], ◌∷◌, ◌++◌, take, drop, ℤ, is_some, Some, codes, Option, sym, refl, ap, ◌∙◌, subst, ⊎_elim}
 use Rattle.std.specs.Fmt.{signed_decimal}
-use Rattle.std.specs.List.{AllByRecursion as All}
+use Rattle.std.specs.List.{AllByRecursion}
 use Rattle.std.specs.Str.{bytes_eq}
 use Rattle.std.proofs.lemmas.Slice.Eq.{bytes_eq-Decides}
 use Rattle.std.proofs.lemmas.List.{append_assoc, append-nil, take-append-drop}
@@ -14,7 +14,7 @@ use Rattle.text.specs.Forms.{class_named, class_word, field_word, fields, fits, 
 use Rattle.text.specs.Grammar.{Begins, Drawn, Held, Values, drawn, drawn_fields, mark}
 use Rattle.text.specs.Tokens.{Symbol, closing, nothing, number, numeral, opening, value, worded}
 use Rattle.text.specs.declared.form.Field.{Field}
-use Rattle.text.specs.declared.form.Field.TheVariants.{Asset, Award, Cents, Class as Of-class, Holder, Kw, Ready as Is-ready}
+use Rattle.text.specs.declared.form.Field.TheVariants.{Asset, Award, Cents, Class as OfClass, Holder, Kw, Ready as IsReady}
 use Rattle.text.specs.declared.form.Item.{Item}
 use Rattle.text.specs.declared.form.Item.TheVariants.{Close as Closed, Name, Open, Value}
 use Rattle.text.specs.declared.form.Verb.{Verb}
@@ -34,22 +34,22 @@ Numeric nothing = Unit {0}
 -- what is drawn meets its items
 
 name_fits : (f : Field) → is_word (field_word f) (worded (field_word f)) ≡ true
-name_fits Of-class = refl
+name_fits OfClass = refl
 name_fits Asset = refl
 name_fits Holder = refl
 name_fits Award = refl
 name_fits Kw = refl
-name_fits Is-ready = refl
+name_fits IsReady = refl
 name_fits Cents = refl
 
 mark_fits : (f : Field) (x : Held f) → is_value f (mark f x) ≡ true
-mark_fits Of-class Delivery = refl
-mark_fits Of-class Availability = refl
+mark_fits OfClass Delivery = refl
+mark_fits OfClass Availability = refl
 mark_fits Asset z = refl
 mark_fits Holder z = refl
 mark_fits Award z = refl
 mark_fits Kw z = refl
-mark_fits Is-ready z = refl
+mark_fits IsReady z = refl
 mark_fits Cents z = refl
 
 pub word_verb : (v : Verb) → verb_of (worded (verb_word v)) ≡ Some v
@@ -125,16 +125,16 @@ class_said bs e =
     (cases_Bool (bytes_eq bs (class_word Delivery)))
 
 is_held : (f : Field) (s : Symbol) → Numeric s → is_value f s ≡ true → (x : Held f) × (s ≡ mark f x)
-is_held Of-class opening h e = absurd (both_ways false refl e)
-is_held Of-class closing h e = absurd (both_ways false refl e)
-is_held Of-class (worded bs) h e = class_said bs e
-is_held Of-class (number bs) h e = absurd (both_ways false refl e)
-is_held Of-class nothing h e = absurd (both_ways false refl e)
+is_held OfClass opening h e = absurd (both_ways false refl e)
+is_held OfClass closing h e = absurd (both_ways false refl e)
+is_held OfClass (worded bs) h e = class_said bs e
+is_held OfClass (number bs) h e = absurd (both_ways false refl e)
+is_held OfClass nothing h e = absurd (both_ways false refl e)
 is_held Asset s h e = is_figure s h e
 is_held Holder s h e = is_figure s h e
 is_held Award s h e = is_figure s h e
 is_held Kw s h e = is_figure s h e
-is_held Is-ready s h e = is_figure s h e
+is_held IsReady s h e = is_figure s h e
 is_held Cents s h e = is_figure s h e
 
 named_next : (bs : List ℕ) (w : Verb) (later : Option Verb) (v : Verb) → cond (bytes_eq bs (verb_word w)) (Some w) later ≡ Some v
@@ -158,7 +158,7 @@ is_verb nothing v e = absurd (none_some e)
 
 -- what meets the items of a form is drawn
 
-fields_drawn : (fs : List Field) (ss : List Symbol) → All Numeric ss → Meets ss (wanted_of fs) → (vs : Values fs) × (ss ≡ drawn_fields fs vs)
+fields_drawn : (fs : List Field) (ss : List Symbol) → AllByRecursion Numeric ss → Meets ss (wanted_of fs) → (vs : Values fs) × (ss ≡ drawn_fields fs vs)
 fields_drawn [] [] ns m = absurd m
 fields_drawn [] (s ∷ []) ns m = (tt, ap (λ s. s ∷ []) (is_close s m.0))
 fields_drawn [] (s ∷ u ∷ ss) ns m = absurd m.1
@@ -174,7 +174,7 @@ fields_drawn (f ∷ fs) (a ∷ b ∷ c ∷ d ∷ ss) ns m =
     four : {a b c d a' b' c' d' : Symbol} {ss ss' : List Symbol} → a ≡ a' → b ≡ b' → c ≡ c' → d ≡ d' → ss ≡ ss' → a ∷ b ∷ c ∷ d ∷ ss ≡ a' ∷ b' ∷ c' ∷ d' ∷ ss'
     four a b c d ss = cc
 
-pub met_drawn : (ss : List Symbol) → All Numeric ss → MeetsForm ss → Drawn ss
+pub met_drawn : (ss : List Symbol) → AllByRecursion Numeric ss → MeetsForm ss → Drawn ss
 met_drawn [] ns m = absurd m
 met_drawn (s ∷ []) ns m = absurd m
 met_drawn (s ∷ u ∷ ss) ns m =
@@ -189,45 +189,45 @@ met_drawn (s ∷ u ∷ ss) ns m =
 abbrev any_of : Item → Symbol
 any_of Open = opening
 any_of (Name f) = worded (field_word f)
-any_of (Value Of-class) = worded (class_word Delivery)
+any_of (Value OfClass) = worded (class_word Delivery)
 any_of (Value Asset) = number (codes "0")
 any_of (Value Holder) = number (codes "0")
 any_of (Value Award) = number (codes "0")
 any_of (Value Kw) = number (codes "0")
-any_of (Value Is-ready) = number (codes "0")
+any_of (Value IsReady) = number (codes "0")
 any_of (Value Cents) = number (codes "0")
 any_of Closed = closing
 
 any_fits : (i : Item) → fits i (any_of i) ≡ true
 any_fits Open = refl
 any_fits (Name f) = name_fits f
-any_fits (Value Of-class) = refl
+any_fits (Value OfClass) = refl
 any_fits (Value Asset) = refl
 any_fits (Value Holder) = refl
 any_fits (Value Award) = refl
 any_fits (Value Kw) = refl
-any_fits (Value Is-ready) = refl
+any_fits (Value IsReady) = refl
 any_fits (Value Cents) = refl
 any_fits Closed = refl
 
 any_numeric : (i : Item) → Numeric (any_of i)
 any_numeric Open = tt
 any_numeric (Name f) = tt
-any_numeric (Value Of-class) = tt
+any_numeric (Value OfClass) = tt
 any_numeric (Value Asset) = refl
 any_numeric (Value Holder) = refl
 any_numeric (Value Award) = refl
 any_numeric (Value Kw) = refl
-any_numeric (Value Is-ready) = refl
+any_numeric (Value IsReady) = refl
 any_numeric (Value Cents) = refl
 any_numeric Closed = tt
 
 record Onward (ss : List Symbol) (P : List Symbol → Type 0) : Type 0 where
   rest : List Symbol
   met : P (ss ++ rest)
-  numeric : All Numeric (ss ++ rest)
+  numeric : AllByRecursion Numeric (ss ++ rest)
 
-onward : (ss : List Symbol) (is : List Item) → All Numeric ss → Leads ss is → Onward ss (λ ss. Meets ss is)
+onward : (ss : List Symbol) (is : List Item) → AllByRecursion Numeric ss → Leads ss is → Onward ss (λ ss. Meets ss is)
 onward [] [] ns l = record { rest = []; met = tt; numeric = tt }
 onward [] (i ∷ is) ns l =
     let more = onward [] is tt tt in
@@ -237,7 +237,7 @@ onward (s ∷ ss) (i ∷ is) ns l =
     let more = onward ss is ns.1 l.1 in
     record { rest = more.rest; met = (l.0, more.met); numeric = (ns.0, more.numeric) }
 
-onward_form : (ss : List Symbol) → All Numeric ss → LeadsForm ss → Onward ss MeetsForm
+onward_form : (ss : List Symbol) → AllByRecursion Numeric ss → LeadsForm ss → Onward ss MeetsForm
 onward_form [] ns l = record { rest = drawn Close tt; met = drawn_meets Close tt; numeric = (tt, (tt, (tt, tt))) }
 onward_form (s ∷ []) ns l =
     record { rest = worded (verb_word Close) ∷ drawn_fields [] tt; met = (l, (Close, refl, fields_meet [] tt)); numeric = (ns.0, (tt, (tt, tt))) }
@@ -245,7 +245,7 @@ onward_form (s ∷ u ∷ ss) ns l =
     let more = onward ss (wanted l.1.0) ns.1.1 l.1.2 in
     record { rest = more.rest; met = (l.0, (l.1.0, l.1.1, more.met)); numeric = (ns.0, (ns.1.0, more.numeric)) }
 
-pub leads_begins : (ss : List Symbol) → All Numeric ss → LeadsForm ss → Begins ss
+pub leads_begins : (ss : List Symbol) → AllByRecursion Numeric ss → LeadsForm ss → Begins ss
 leads_begins ss ns l =
     let more = onward_form ss ns l in
     let d = met_drawn (ss ++ more.rest) more.numeric more.met in

@@ -10,7 +10,7 @@ use Rattle.text.specs.Reading.{against, by_shape, by_tokens, by_verb, form_in, r
 use Rattle.text.specs.Tokens.{Placed, Symbol, closing, nothing, number, opening, tokens, worded}
 use Rattle.text.specs.declared.fault.FormFault.{FormFault}
 use Rattle.text.specs.declared.form.Form.{Form}
-use Rattle.text.specs.declared.form.Field.TheVariants.{Asset, Award, Cents, Class as Of-class, Holder, Kw, Ready as Is-ready}
+use Rattle.text.specs.declared.form.Field.TheVariants.{Asset, Award, Cents, Class as OfClass, Holder, Kw, Ready as IsReady}
 use Rattle.text.specs.declared.form.Item.{Item}
 use Rattle.text.specs.declared.form.Item.TheVariants.{Close as Closed, Name, Open, Value}
 use Rattle.text.specs.declared.form.Verb.{Verb}
@@ -53,12 +53,12 @@ fits_some item place (worded bs) later e = refl
 fits_some item place (number bs) later e = refl
 fits_some Open place nothing later e = absurd (false≢true e)
 fits_some (Name f) place nothing later e = absurd (false≢true e)
-fits_some (Value Of-class) place nothing later e = absurd (false≢true e)
+fits_some (Value OfClass) place nothing later e = absurd (false≢true e)
 fits_some (Value Asset) place nothing later e = absurd (false≢true e)
 fits_some (Value Holder) place nothing later e = absurd (false≢true e)
 fits_some (Value Award) place nothing later e = absurd (false≢true e)
 fits_some (Value Kw) place nothing later e = absurd (false≢true e)
-fits_some (Value Is-ready) place nothing later e = absurd (false≢true e)
+fits_some (Value IsReady) place nothing later e = absurd (false≢true e)
 fits_some (Value Cents) place nothing later e = absurd (false≢true e)
 fits_some Closed place nothing later e = absurd (false≢true e)
 

@@ -3,7 +3,7 @@
 use Rattle.std.proofs.Common.{◌≡◌, ℕ, zero, suc, ◌+◌, ◌*◌, ◌/◌, ◌%◌, ◌^◌, ◌<◌, ◌≤◌, true, false, not, ◌||◌, eqb, leb, List, [], ◌∷◌, length, get_or, ℤ, pos, negsuc, neg_ℤ, decimal, sym, refl, ap, ◌∙◌, subst, ⊎_elim, pow-suc, arith, lit<, rules}
 use native.Mathlib.Nat.{one-le-pow}
 use lib.Signed.{mag}
-use Rattle.std.specs.Fmt.{digits as written-digits, digit_glyph, signed_decimal, digits_onto as spelt}
+use Rattle.std.specs.Fmt.{digits as written_digits, digit_glyph, signed_decimal, digits_onto as spelt}
 use Rattle.std.proofs.lemmas.Fmt.{decimal_digit, decimal_nonempty, decimal-digits_value, digits_decimal, first_decimal, length-decimal-le, digits_value-decimal}
 use Rattle.std.proofs.lemmas.Str.Parse.{IsNumeralModel, numerals_by_fold, digits_value_short}
 use Rattle.std.proofs.lemmas.Bool.{and_from, and_parts, both_ways, cases_Bool, cases_eq, cond_both, cond-false, eq-eqb, eqb-true, le-leb, ne_eqb, not_from_false, not-true, or_cases, or_right}
@@ -41,7 +41,7 @@ spelt_small (suc k) (suc m) n acc h short =
     (cases_Bool (eqb (n / 10) 0))
 
 short_decimal : (n : ℕ) → length (decimal n) ≤ 16 → n < 2 ^ 64
-unfolding written-digits
+unfolding written_digits
 short_decimal n h = let small : n < 10 ^ 16 = spelt_small 64 16 n [] (omega arith) (omega arith) in omega arith
 
 -- a number with no minus

@@ -2,7 +2,7 @@
 -- Assumes nothing.
 use Rattle.std.proofs.Common.{◌≡◌, ℕ, zero, suc, ◌+◌, ◌*◌, true, false, ◌&&◌, eqb, ◌⊎◌, List, [], ◌∷◌, get_or, drop, ℤ, pos, negsuc, nat_abs, Some, None, Option, sym, refl, ap, ◌∙◌, inl, inr, ⊎_elim, arith}
 use lib.Signed.{le_z}
-use Rattle.std.specs.List.{AllByRecursion as All}
+use Rattle.std.specs.List.{AllByRecursion}
 use Rattle.std.proofs.lemmas.List.{drop-map, get_or-drop}
 use Rattle.std.proofs.lemmas.Int.{ints}
 use Rattle.std.proofs.lemmas.Bool.{and_parts, both_ways, cases_Bool, cond-false, cond-true}
@@ -13,7 +13,7 @@ use Rattle.text.specs.Reading.{draft_of, earlier, formed, fresh, gather, gathere
 use Rattle.text.specs.Tokens.{Placed, nothing, placed}
 use Rattle.text.specs.declared.form.Draft.{Draft}
 use Rattle.text.specs.declared.form.Field.{Field}
-use Rattle.text.specs.declared.form.Field.TheVariants.{Asset, Award, Cents, Class as Of-class, Holder, Kw, Ready as Is-ready}
+use Rattle.text.specs.declared.form.Field.TheVariants.{Asset, Award, Cents, Class as OfClass, Holder, Kw, Ready as IsReady}
 use Rattle.text.specs.declared.form.Form.{Form}
 use Rattle.text.specs.declared.form.Form.TheVariants as say
 use Rattle.text.specs.declared.form.Gathered.{Gathered}
@@ -39,12 +39,12 @@ between_false : (least most z : ℤ) → (Between least most z → ⊥) → (le_
 between_false least most z n = ⊎_elim (λ t. absurd (n (between_from least most z t))) (λ f. f) (cases_Bool (le_z least z && le_z z most))
 
 within_or_not : (f : Field) (x : Held f) → Within f x ⊎ (Within f x → ⊥)
-within_or_not Of-class class = inl tt
+within_or_not OfClass class = inl tt
 within_or_not Asset z = decide _ _ z
 within_or_not Holder z = decide _ _ z
 within_or_not Award z = decide _ _ z
 within_or_not Kw z = decide _ _ z
-within_or_not Is-ready z = decide _ _ z
+within_or_not IsReady z = decide _ _ z
 within_or_not Cents z = decide _ _ z
 
 pub ranged_or_off : (fs : List Field) (vs : Values fs) → Ranged fs vs ⊎ ((i : ℕ) × Off fs vs i)
@@ -56,12 +56,12 @@ ranged_or_off (f ∷ fs) (x, vs) =
 -- the draft that takes in a value
 
 abbrev put : (f : Field) → Held f → Draft → Draft
-put Of-class class d = draft_of class d.asset d.holder d.award d.kw d.ready d.cents
+put OfClass class d = draft_of class d.asset d.holder d.award d.kw d.ready d.cents
 put Asset z d = draft_of d.class (nat_abs z) d.holder d.award d.kw d.ready d.cents
 put Holder z d = draft_of d.class d.asset (nat_abs z) d.award d.kw d.ready d.cents
 put Award z d = draft_of d.class d.asset d.holder z d.kw d.ready d.cents
 put Kw z d = draft_of d.class d.asset d.holder d.award (nat_abs z) d.ready d.cents
-put Is-ready z d = draft_of d.class d.asset d.holder d.award d.kw (eqb (nat_abs z) 1) d.cents
+put IsReady z d = draft_of d.class d.asset d.holder d.award d.kw (eqb (nat_abs z) 1) d.cents
 put Cents z d = draft_of d.class d.asset d.holder d.award d.kw d.ready (nat_abs z)
 
 abbrev pub filled : (fs : List Field) → Values fs → Draft → Draft
@@ -69,22 +69,22 @@ filled [] vs d = d
 filled (f ∷ fs) (x, vs) d = filled fs vs (put f x d)
 
 hold_within : (f : Field) (x : Held f) (d : Draft) → Numeric (mark f x) → Within f x → hold f (mark f x) d ≡ Some (put f x d)
-hold_within Of-class Delivery d n w = refl
-hold_within Of-class Availability d n w = refl
+hold_within OfClass Delivery d n w = refl
+hold_within OfClass Availability d n w = refl
 hold_within Asset z d n w = ap (λ z. hold_number Asset z d) (value_signed z n) ∙ cond-true _ _ _ (between_true _ _ z w)
 hold_within Holder z d n w = ap (λ z. hold_number Holder z d) (value_signed z n) ∙ cond-true _ _ _ (between_true _ _ z w)
 hold_within Award z d n w = ap (λ z. hold_number Award z d) (value_signed z n) ∙ cond-true _ _ _ (between_true _ _ z w)
 hold_within Kw z d n w = ap (λ z. hold_number Kw z d) (value_signed z n) ∙ cond-true _ _ _ (between_true _ _ z w)
-hold_within Is-ready z d n w = ap (λ z. hold_number Is-ready z d) (value_signed z n) ∙ cond-true _ _ _ (between_true _ _ z w)
+hold_within IsReady z d n w = ap (λ z. hold_number IsReady z d) (value_signed z n) ∙ cond-true _ _ _ (between_true _ _ z w)
 hold_within Cents z d n w = ap (λ z. hold_number Cents z d) (value_signed z n) ∙ cond-true _ _ _ (between_true _ _ z w)
 
 hold_outside : (f : Field) (x : Held f) (d : Draft) → Numeric (mark f x) → (Within f x → ⊥) → hold f (mark f x) d ≡ None
-hold_outside Of-class class d n w = absurd (w tt)
+hold_outside OfClass class d n w = absurd (w tt)
 hold_outside Asset z d n w = ap (λ z. hold_number Asset z d) (value_signed z n) ∙ cond-false _ _ _ (between_false _ _ z w)
 hold_outside Holder z d n w = ap (λ z. hold_number Holder z d) (value_signed z n) ∙ cond-false _ _ _ (between_false _ _ z w)
 hold_outside Award z d n w = ap (λ z. hold_number Award z d) (value_signed z n) ∙ cond-false _ _ _ (between_false _ _ z w)
 hold_outside Kw z d n w = ap (λ z. hold_number Kw z d) (value_signed z n) ∙ cond-false _ _ _ (between_false _ _ z w)
-hold_outside Is-ready z d n w = ap (λ z. hold_number Is-ready z d) (value_signed z n) ∙ cond-false _ _ _ (between_false _ _ z w)
+hold_outside IsReady z d n w = ap (λ z. hold_number IsReady z d) (value_signed z n) ∙ cond-false _ _ _ (between_false _ _ z w)
 hold_outside Cents z d n w = ap (λ z. hold_number Cents z d) (value_signed z n) ∙ cond-false _ _ _ (between_false _ _ z w)
 
 -- the tokens of a field, of which the third says its value
@@ -104,7 +104,7 @@ module _ (f : Field) (fs : List Field) (x : Held f) (vs : Values fs) (ts : List 
   took : (g : Gathered) (o : Option Draft) → hold f (mark f x) g.draft ≡ o → take_in f (get_or ts 2 (placed 0 nothing)) g ≡ taken_in o (get_or ts 2 (placed 0 nothing)).place g
   took g o held = ap (λ o. taken_in o (get_or ts 2 (placed 0 nothing)).place g) (ap (λ s. hold f s g.draft) value_said ∙ held)
 
-pub gather_ranged : (fs : List Field) (vs : Values fs) (ts : List Placed) (g : Gathered) → said ts ≡ drawn_fields fs vs → All Numeric (drawn_fields fs vs) → Ranged fs vs
+pub gather_ranged : (fs : List Field) (vs : Values fs) (ts : List Placed) (g : Gathered) → said ts ≡ drawn_fields fs vs → AllByRecursion Numeric (drawn_fields fs vs) → Ranged fs vs
     → gather fs ts g ≡ gathered (filled fs vs g.draft) g.off
 gather_ranged [] vs ts g e ns r = refl
 gather_ranged (f ∷ fs) (x, vs) ts g e ns r =
@@ -121,7 +121,7 @@ gather_kept (f ∷ fs) ts g byte e =
     gather_kept fs (drop 4 ts) (take_in f (get_or ts 2 (placed 0 nothing)) g) byte
     (kept_one (hold f (get_or ts 2 (placed 0 nothing)).symbol g.draft) (get_or ts 2 (placed 0 nothing)).place g byte e)
 
-pub gather_off : (fs : List Field) (vs : Values fs) (ts : List Placed) (g : Gathered) (i : ℕ) → said ts ≡ drawn_fields fs vs → All Numeric (drawn_fields fs vs) → Off fs vs i
+pub gather_off : (fs : List Field) (vs : Values fs) (ts : List Placed) (g : Gathered) (i : ℕ) → said ts ≡ drawn_fields fs vs → AllByRecursion Numeric (drawn_fields fs vs) → Off fs vs i
     → g.off ≡ None → (gather fs ts g).off ≡ Some (byte_of ts (4 * i + 2))
 gather_off [] vs ts g i e ns off none = absurd off
 gather_off (f ∷ fs) (x, vs) ts g zero e ns off none =

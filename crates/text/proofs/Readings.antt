@@ -1,7 +1,7 @@
 -- A line is read as the grammar says, and in no other way.
 -- Assumes nothing.
 use Rattle.std.proofs.Common.{◌≡◌, ℕ, suc, ◌+◌, ◌*◌, ◌<◌, List, [], ◌∷◌, length, get_or, take, drop, None, Ok, Err, Result, sym, refl, ap, ◌∙◌, subst, ⊎_elim, add-one, arith}
-use Rattle.std.specs.List.{AllByRecursion as All}
+use Rattle.std.specs.List.{AllByRecursion}
 use Rattle.std.proofs.ByRecursion.{All-take}
 use Rattle.std.proofs.lemmas.List.{drop-map, get_or-drop, take-take}
 use Rattle.std.proofs.lemmas.Bool.{cases_lt, cases_order, cond-true, lt-ltb}
@@ -33,12 +33,12 @@ drawn_read end (t ∷ u ∷ ts) v vs e =
     ∙ ap (by_verb end u ts) (ap (λ ss. verb_of (get_or ss 1 nothing)) e ∙ word_verb v)
     ∙ ap (by_shape v ts) (against_met end (wanted v) ts (subst (λ ss. Meets ss (wanted v)) (sym rest) (fields_meet (fields v) vs)))
 
-module _ (end : ℕ) (ts : List Placed) (v : Verb) (vs : Values (fields v)) (e : said ts ≡ drawn v vs) (ns : All Numeric (said ts)) where
+module _ (end : ℕ) (ts : List Placed) (v : Verb) (vs : Values (fields v)) (e : said ts ≡ drawn v vs) (ns : AllByRecursion Numeric (said ts)) where
   fields_said : said (drop 2 ts) ≡ drawn_fields (fields v) vs
   fields_said = sym (drop-map (λ t. t.symbol) 2 ts) ∙ ap (drop 2) e
 
-  fields_numeric : All Numeric (drawn_fields (fields v) vs)
-  fields_numeric = (subst (All Numeric) e ns).1.1
+  fields_numeric : AllByRecursion Numeric (drawn_fields (fields v) vs)
+  fields_numeric = (subst (AllByRecursion Numeric) e ns).1.1
 
   ranged_read : (f : Form) → Ranged (fields v) vs → by_range v (filled (fields v) vs fresh.draft) None ≡ Ok f → form_in end ts ≡ Ok f
   ranged_read f r formed =
@@ -53,14 +53,14 @@ module _ (end : ℕ) (ts : List Placed) (v : Verb) (vs : Values (fields v)) (e :
 
 -- a place where tokens stop being those of a form is the only one
 
-module _ (ss : List Symbol) (ns : All Numeric ss) where
+module _ (ss : List Symbol) (ns : AllByRecursion Numeric ss) where
   begins_next : (j k : ℕ) → j < k → Begins (take k ss) → Begins (take (suc j) ss)
   begins_next j k h b = subst Begins (take-take (suc j) k ss h) (begins_take (suc j) b)
 
   leads_next : (j k : ℕ) → j < k → LeadsForm (take k ss) → Begins (take (suc j) ss)
   leads_next j k h l = begins_next j k h (leads_begins (take k ss) (All-take Numeric k ss ns) l)
 
-wrong_read : (end : ℕ) (ts : List Placed) (k : ℕ) → All Numeric (said ts) → Begins (take k (said ts)) → (Begins (take (suc k) (said ts)) → ⊥) → Shape end ts
+wrong_read : (end : ℕ) (ts : List Placed) (k : ℕ) → AllByRecursion Numeric (said ts) → Begins (take k (said ts)) → (Begins (take (suc k) (said ts)) → ⊥) → Shape end ts
     → form_in end ts ≡ Err (NoForm (byte_of ts k))
 wrong_read end ts k ns b n (whole_form m) = absurd (n (begins_take (suc k) (drawn_begins (met_drawn (said ts) ns m))))
 wrong_read end ts k ns b n (cut_form l m e) = absurd (n (begins_take (suc k) (leads_begins (said ts) ns l)))
@@ -68,7 +68,7 @@ wrong_read end ts k ns b n (broken_form j h l m e) =
     ⊎_elim (λ same. e ∙ ap (λ k. Err (NoForm (byte_of ts k))) same)
     (⊎_elim (λ lt. absurd (m (begins_leads (begins_next (said ts) ns j k lt b)))) (λ gt. absurd (n (leads_next (said ts) ns k j gt l)))) (cases_order j k)
 
-early_read : (end : ℕ) (ts : List Placed) → All Numeric (said ts) → Begins (said ts) → (Drawn (said ts) → ⊥) → Shape end ts → form_in end ts ≡ Err (NoForm end)
+early_read : (end : ℕ) (ts : List Placed) → AllByRecursion Numeric (said ts) → Begins (said ts) → (Drawn (said ts) → ⊥) → Shape end ts → form_in end ts ≡ Err (NoForm end)
 early_read end ts ns b n (whole_form m) = absurd (n (met_drawn (said ts) ns m))
 early_read end ts ns b n (cut_form l m e) = e
 early_read end ts ns b n (broken_form j h l m e) = absurd (m (begins_leads (begins_take (suc j) b)))

@@ -3,7 +3,7 @@
 use Rattle.std.proofs.Common.{◌≡◌, ℕ, zero, suc, ◌+◌, ◌-◌, ◌*◌, ◌^◌, ◌<◌, ◌≤◌, Bool, true, false, ◌&&◌, eqb, leb, List, [], ◌∷◌, ◌++◌, length, get_or, drop, ℤ, pos, negsuc, neg_ℤ, ◌≤ℤ◌, sym, refl, ap, ◌∙◌, subst, ⊎_elim, arith}
 use lib.Signed.{mag}
 use Rattle.std.specs.Fmt.{signed_decimal}
-use Rattle.std.specs.List.{flat_map, AllByRecursion as All}
+use Rattle.std.specs.List.{flat_map, AllByRecursion}
 use Rattle.std.proofs.lemmas.List.{append_assoc, drop_at, get_or-append-add, get_or_append_left, length-append, take_at}
 use Rattle.std.proofs.lemmas.Int.{ints}
 use Rattle.std.proofs.lemmas.Bool.{and_from, and_left, and_parts, and_right, both_ways, cases_eq, cond-false, cond-true, le-leb, leb-true, lt-leb, or_left, or_right}
@@ -17,7 +17,7 @@ use Rattle.text.specs.Line.{field, form}
 use Rattle.text.specs.Tokens.{Symbol, all_within, closing, digits, natural, nothing, number, numeral, opening, run_symbol, tokens, word, worded}
 use Rattle.text.specs.declared.byte.Sort.TheVariants.{Part}
 use Rattle.text.specs.declared.form.Field.{Field}
-use Rattle.text.specs.declared.form.Field.TheVariants.{Asset, Award, Cents, Class as Of-class, Holder, Kw, Ready as Is-ready}
+use Rattle.text.specs.declared.form.Field.TheVariants.{Asset, Award, Cents, Class as OfClass, Holder, Kw, Ready as IsReady}
 use Rattle.text.specs.declared.form.Form.{Form}
 use Rattle.text.specs.declared.form.Verb.{Verb}
 use Rattle.text.specs.declared.form.Verb.TheVariants.{Close, List as Listing, Over, Payin, Ready, Term, Under, Uplift}
@@ -77,12 +77,12 @@ says_run {run} {rest} {s} {ss} r stops says = record { by = run_said run rest s 
 -- the words are runs, and so are numbers
 
 field_run : (f : Field) → Run (field_word f) (worded (field_word f))
-field_run Of-class = record { some = refl; short = refl; whole = refl; means = refl }
+field_run OfClass = record { some = refl; short = refl; whole = refl; means = refl }
 field_run Asset = record { some = refl; short = refl; whole = refl; means = refl }
 field_run Holder = record { some = refl; short = refl; whole = refl; means = refl }
 field_run Award = record { some = refl; short = refl; whole = refl; means = refl }
 field_run Kw = record { some = refl; short = refl; whole = refl; means = refl }
-field_run Is-ready = record { some = refl; short = refl; whole = refl; means = refl }
+field_run IsReady = record { some = refl; short = refl; whole = refl; means = refl }
 field_run Cents = record { some = refl; short = refl; whole = refl; means = refl }
 
 verb_run : (v : Verb) → Run (verb_word v) (worded (verb_word v))
@@ -137,13 +137,13 @@ within_numeral least most z h low high = numeral_signed z (small z (omega (arith
     small (negsuc n) low high = omega (arith, ints)
 
 text_run : (f : Field) (x : Held f) → Within f x → Run (text f x) (mark f x)
-text_run Of-class Delivery w = record { some = refl; short = refl; whole = refl; means = refl }
-text_run Of-class Availability w = record { some = refl; short = refl; whole = refl; means = refl }
+text_run OfClass Delivery w = record { some = refl; short = refl; whole = refl; means = refl }
+text_run OfClass Availability w = record { some = refl; short = refl; whole = refl; means = refl }
 text_run Asset z w = number_run (signed_decimal z) (within_numeral (pos 1) (pos asset_most) z w (omega (arith, ints)) (omega (arith, ints)))
 text_run Holder z w = number_run (signed_decimal z) (within_numeral (pos 1) (pos holder_most) z w (omega (arith, ints)) (omega (arith, ints)))
 text_run Award z w = number_run (signed_decimal z) (within_numeral (neg_ℤ award_most) award_most z w (omega (arith, ints)) (omega (arith, ints)))
 text_run Kw z w = number_run (signed_decimal z) (within_numeral (pos 0) (pos commitment_most) z w (omega (arith, ints)) (omega (arith, ints)))
-text_run Is-ready z w = number_run (signed_decimal z) (within_numeral (pos 0) (pos 1) z w (omega (arith, ints)) (omega (arith, ints)))
+text_run IsReady z w = number_run (signed_decimal z) (within_numeral (pos 0) (pos 1) z w (omega (arith, ints)) (omega (arith, ints)))
 text_run Cents z w = number_run (signed_decimal z) (within_numeral (pos 1) (pos entry_most) z w (omega (arith, ints)) (omega (arith, ints)))
 
 -- the fields of a line, up to its last bracket
@@ -186,12 +186,12 @@ says_line f s =
 -- none of its symbols is nothing
 
 mark_some : (f : Field) (x : Held f) → mark f x ≡ nothing → ⊥
-mark_some Of-class class e = let z : ◌≡◌ {A = ℕ} 0 1 = cc in omega arith
+mark_some OfClass class e = let z : ◌≡◌ {A = ℕ} 0 1 = cc in omega arith
 mark_some Asset x e = let z : ◌≡◌ {A = ℕ} 0 1 = cc in omega arith
 mark_some Holder x e = let z : ◌≡◌ {A = ℕ} 0 1 = cc in omega arith
 mark_some Award x e = let z : ◌≡◌ {A = ℕ} 0 1 = cc in omega arith
 mark_some Kw x e = let z : ◌≡◌ {A = ℕ} 0 1 = cc in omega arith
-mark_some Is-ready x e = let z : ◌≡◌ {A = ℕ} 0 1 = cc in omega arith
+mark_some IsReady x e = let z : ◌≡◌ {A = ℕ} 0 1 = cc in omega arith
 mark_some Cents x e = let z : ◌≡◌ {A = ℕ} 0 1 = cc in omega arith
 
 opening_some : opening ≡ nothing → ⊥
@@ -203,11 +203,11 @@ closing_some e = let z : ◌≡◌ {A = ℕ} 0 1 = cc in omega arith
 worded_some : {bs : List ℕ} → worded bs ≡ nothing → ⊥
 worded_some e = let z : ◌≡◌ {A = ℕ} 0 1 = cc in omega arith
 
-fields_some : (fs : List Field) (vs : Values fs) → All (λ s. s ≡ nothing → ⊥) (drawn_fields fs vs)
+fields_some : (fs : List Field) (vs : Values fs) → AllByRecursion (λ s. s ≡ nothing → ⊥) (drawn_fields fs vs)
 fields_some [] vs = (closing_some, tt)
 fields_some (f ∷ fs) (x, vs) = (opening_some, (worded_some, (mark_some f x, (closing_some, fields_some fs vs))))
 
-drawn_some : (v : Verb) (vs : Values (fields v)) → All (λ s. s ≡ nothing → ⊥) (drawn v vs)
+drawn_some : (v : Verb) (vs : Values (fields v)) → AllByRecursion (λ s. s ≡ nothing → ⊥) (drawn v vs)
 drawn_some v vs = (opening_some, (worded_some, fields_some (fields v) vs))
 
 -- and it is short
@@ -248,4 +248,4 @@ line_short f s =
 pub read_back : ReadBack
 read_back f s =
     let says = (says_line f s).by 0 in
-    taken (record { short = line_short f s; clean = subst (All (λ s. s ≡ nothing → ⊥)) (sym says) (drawn_some (verb f) (values f)) }) says s
+    taken (record { short = line_short f s; clean = subst (AllByRecursion (λ s. s ≡ nothing → ⊥)) (sym says) (drawn_some (verb f) (values f)) }) says s

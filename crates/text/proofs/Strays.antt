@@ -1,7 +1,7 @@
 -- The tokens of a line: the numbers among them, and the first that is none.
 -- Assumes nothing.
 use Rattle.std.proofs.Common.{◌≡◌, ℕ, zero, suc, ◌<◌, cond, ◌⊎◌, List, [], ◌∷◌, map, length, get_or, take, Some, None, Option, sym, refl, ap, ◌∙◌, inl, inr, ⊎_elim, arith}
-use Rattle.std.specs.List.{AllByRecursion as All}
+use Rattle.std.specs.List.{AllByRecursion}
 use Rattle.std.proofs.lemmas.Bool.{cond_both}
 use Rattle.text.specs.Bytes.{sort}
 use Rattle.text.specs.Grammar.{AllTokens, said}
@@ -26,11 +26,11 @@ sort_numeric Blank bs = tt
 sort_numeric Part bs = run_numeric bs
 sort_numeric Foreign bs = tt
 
-pieces_numeric : (ps : List Piece) → All Numeric (said (map (λ p. placed p.place (symbol p.bytes)) ps))
+pieces_numeric : (ps : List Piece) → AllByRecursion Numeric (said (map (λ p. placed p.place (symbol p.bytes)) ps))
 pieces_numeric [] = tt
 pieces_numeric (p ∷ ps) = (sort_numeric (sort (get_or p.bytes 0 0)) p.bytes, pieces_numeric ps)
 
-pub tokens_numeric : (place : ℕ) (bs : List ℕ) → All Numeric (said (tokens place bs))
+pub tokens_numeric : (place : ℕ) (bs : List ℕ) → AllByRecursion Numeric (said (tokens place bs))
 tokens_numeric place bs = pieces_numeric (pieces place bs)
 
 -- the first that is none

@@ -5,7 +5,7 @@
 --   layer    where it was found
 -- Assumes nothing.
 use Rattle.std.specs.Prelude.{ℕ}
-use Rattle.book.specs.Refusal.{number as book-number}
+use Rattle.book.specs.Refusal.{number as book_number}
 use Rattle.text.specs.declared.fault.Fault.{Fault}
 use Rattle.text.specs.declared.fault.Fault.TheVariants.{Book as ByBook, Form as InForm}
 use Rattle.text.specs.declared.fault.FormFault.{FormFault}
@@ -27,7 +27,7 @@ form_number (OutOfRange at) = 4
 
 abbrev pub number : Fault → ℕ
 number (InForm f) = form_number f
-number (ByBook why) = book-number why
+number (ByBook why) = book_number why
 
 abbrev text_byte : TextFault → ℕ
 text_byte LongInput = 0

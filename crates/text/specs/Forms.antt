@@ -13,7 +13,7 @@ use Rattle.book.specs.declared.class.Class.{Class}
 use Rattle.book.specs.declared.class.Class.TheVariants.{Availability, Delivery}
 use Rattle.text.specs.Tokens.{Symbol, closing, nothing, number, opening, worded}
 use Rattle.text.specs.declared.form.Field.{Field}
-use Rattle.text.specs.declared.form.Field.TheVariants.{Asset, Award, Cents, Class as Of-class, Holder, Kw, Ready as Is-ready}
+use Rattle.text.specs.declared.form.Field.TheVariants.{Asset, Award, Cents, Class as OfClass, Holder, Kw, Ready as IsReady}
 use Rattle.text.specs.declared.form.Item.{Item}
 use Rattle.text.specs.declared.form.Item.TheVariants.{Close as Closed, Name, Open, Value}
 use Rattle.text.specs.declared.form.Verb.{Verb}
@@ -30,12 +30,12 @@ verb_word Ready = codes "ready"
 verb_word Close = codes "close"
 
 abbrev pub field_word : Field → List ℕ
-field_word Of-class = codes "class"
+field_word OfClass = codes "class"
 field_word Asset = codes "asset"
 field_word Holder = codes "holder"
 field_word Award = codes "award"
 field_word Kw = codes "kw"
-field_word Is-ready = codes "ready"
+field_word IsReady = codes "ready"
 field_word Cents = codes "cents"
 
 abbrev pub class_word : Class → List ℕ
@@ -44,9 +44,9 @@ class_word Availability = codes "availability"
 
 abbrev pub fields : Verb → List Field
 fields Listing = Asset ∷ Holder ∷ []
-fields Term = Asset ∷ Award ∷ Kw ∷ Is-ready ∷ []
-fields Over = Of-class ∷ Asset ∷ Cents ∷ []
-fields Under = Of-class ∷ Asset ∷ Cents ∷ []
+fields Term = Asset ∷ Award ∷ Kw ∷ IsReady ∷ []
+fields Over = OfClass ∷ Asset ∷ Cents ∷ []
+fields Under = OfClass ∷ Asset ∷ Cents ∷ []
 fields Uplift = Asset ∷ Cents ∷ []
 fields Payin = Asset ∷ Cents ∷ []
 fields Ready = Asset ∷ []
@@ -98,12 +98,12 @@ class_of (number bs) = None
 class_of nothing = None
 
 abbrev pub is_value : Field → Symbol → Bool
-is_value Of-class s = is_some (class_of s)
+is_value OfClass s = is_some (class_of s)
 is_value Asset s = is_number s
 is_value Holder s = is_number s
 is_value Award s = is_number s
 is_value Kw s = is_number s
-is_value Is-ready s = is_number s
+is_value IsReady s = is_number s
 is_value Cents s = is_number s
 
 abbrev pub fits : Item → Symbol → Bool

@@ -23,7 +23,7 @@
 -- Assumes nothing.
 use Rattle.std.specs.Prelude.{◌≡◌, ℕ, zero, suc, ◌+◌, ◌*◌, ◌<◌, ◌≤◌, cond, List, [], ◌∷◌, ◌++◌, map, length, get_or, take, ℤ, pos, neg_ℤ, ◌≤ℤ◌, Ok, Err, Result, ◌≢◌, slice_index_or}
 use Rattle.std.specs.Fmt.{signed_decimal}
-use Rattle.std.specs.List.{AllByRecursion as All}
+use Rattle.std.specs.List.{AllByRecursion}
 use Rattle.payment.specs.Stand.{award_most, commitment_most}
 use Rattle.book.specs.Limits.{asset_most, entry_most, holder_most}
 use Rattle.book.specs.declared.class.Class.{Class}
@@ -34,7 +34,7 @@ use Rattle.text.specs.declared.fault.FormFault.{FormFault}
 use Rattle.text.specs.declared.fault.FormFault.TheVariants.{NoForm, OutOfRange, Text}
 use Rattle.text.specs.declared.fault.TextFault.TheVariants.{LongLine, NoToken}
 use Rattle.text.specs.declared.form.Field.{Field}
-use Rattle.text.specs.declared.form.Field.TheVariants.{Asset, Award, Cents, Class as Of-class, Holder, Kw, Ready as Is-ready}
+use Rattle.text.specs.declared.form.Field.TheVariants.{Asset, Award, Cents, Class as OfClass, Holder, Kw, Ready as IsReady}
 use Rattle.text.specs.declared.form.Form.{Form}
 use Rattle.text.specs.declared.form.Form.TheVariants as say
 use Rattle.text.specs.declared.form.Verb.{Verb}
@@ -43,12 +43,12 @@ use Rattle.text.specs.declared.form.Verb.TheVariants.{Close, List as Listing, Ov
 -- the symbols of a form
 
 abbrev pub Held : Field → Type 0
-Held Of-class = Class
+Held OfClass = Class
 Held Asset = ℤ
 Held Holder = ℤ
 Held Award = ℤ
 Held Kw = ℤ
-Held Is-ready = ℤ
+Held IsReady = ℤ
 Held Cents = ℤ
 
 abbrev pub Values : List Field → Type 0
@@ -56,21 +56,21 @@ Values [] = Unit {0}
 Values (f ∷ fs) = Held f × Values fs
 
 abbrev pub text : (f : Field) → Held f → List ℕ
-text Of-class class = class_word class
+text OfClass class = class_word class
 text Asset z = signed_decimal z
 text Holder z = signed_decimal z
 text Award z = signed_decimal z
 text Kw z = signed_decimal z
-text Is-ready z = signed_decimal z
+text IsReady z = signed_decimal z
 text Cents z = signed_decimal z
 
 abbrev pub mark : (f : Field) → Held f → Symbol
-mark Of-class class = worded (class_word class)
+mark OfClass class = worded (class_word class)
 mark Asset z = number (signed_decimal z)
 mark Holder z = number (signed_decimal z)
 mark Award z = number (signed_decimal z)
 mark Kw z = number (signed_decimal z)
-mark Is-ready z = number (signed_decimal z)
+mark IsReady z = number (signed_decimal z)
 mark Cents z = number (signed_decimal z)
 
 abbrev pub drawn_fields : (fs : List Field) → Values fs → List Symbol
@@ -97,12 +97,12 @@ abbrev pub Between : ℤ → ℤ → ℤ → Type 0
 Between least most z = (least ≤ℤ z) × (z ≤ℤ most)
 
 abbrev pub Within : (f : Field) → Held f → Type 0
-Within Of-class class = Unit {0}
+Within OfClass class = Unit {0}
 Within Asset z = Between (pos 1) (pos asset_most) z
 Within Holder z = Between (pos 1) (pos holder_most) z
 Within Award z = Between (neg_ℤ award_most) award_most z
 Within Kw z = Between (pos 0) (pos commitment_most) z
-Within Is-ready z = Between (pos 0) (pos 1) z
+Within IsReady z = Between (pos 0) (pos 1) z
 Within Cents z = Between (pos 1) (pos entry_most) z
 
 abbrev pub Ranged : (fs : List Field) → Values fs → Type 0
@@ -158,7 +158,7 @@ abbrev pub byte_of : List Placed → ℕ → ℕ
 byte_of ts k = (get_or ts k (placed 0 nothing)).place + 1
 
 abbrev pub AllTokens : List Placed → Type 0
-AllTokens ts = All (λ s. s ≢ nothing) (said ts)
+AllTokens ts = AllByRecursion (λ s. s ≢ nothing) (said ts)
 
 pub record Tokened (line : List ℕ) : Type 0 where
   pub short : length line ≤ 300

@@ -19,7 +19,7 @@ use Rattle.text.specs.declared.fault.FormFault.TheVariants.{NoForm, OutOfRange, 
 use Rattle.text.specs.declared.fault.TextFault.TheVariants.{LongLine, NoToken}
 use Rattle.text.specs.declared.form.Draft.{Draft}
 use Rattle.text.specs.declared.form.Field.{Field}
-use Rattle.text.specs.declared.form.Field.TheVariants.{Asset, Award, Cents, Class as Of-class, Holder, Kw, Ready as Is-ready}
+use Rattle.text.specs.declared.form.Field.TheVariants.{Asset, Award, Cents, Class as OfClass, Holder, Kw, Ready as IsReady}
 use Rattle.text.specs.declared.form.Form.{Form}
 use Rattle.text.specs.declared.form.Form.TheVariants as form
 use Rattle.text.specs.declared.form.Gathered.{Gathered}
@@ -55,12 +55,12 @@ abbrev pub ranged : ℤ → ℤ → ℤ → Draft → Option Draft
 ranged least most z d = cond (int_le least z && int_le z most) (Some d) None
 
 abbrev pub hold_number : Field → ℤ → Draft → Option Draft
-hold_number Of-class z d = Some d
+hold_number OfClass z d = Some d
 hold_number Asset z d = ranged (pos 1) (pos asset_most) z (draft_of d.class (unsigned_abs z) d.holder d.award d.kw d.ready d.cents)
 hold_number Holder z d = ranged (pos 1) (pos holder_most) z (draft_of d.class d.asset (unsigned_abs z) d.award d.kw d.ready d.cents)
 hold_number Award z d = ranged (neg_ℤ award_most) award_most z (draft_of d.class d.asset d.holder z d.kw d.ready d.cents)
 hold_number Kw z d = ranged (pos 0) (pos commitment_most) z (draft_of d.class d.asset d.holder d.award (unsigned_abs z) d.ready d.cents)
-hold_number Is-ready z d = ranged (pos 0) (pos 1) z (draft_of d.class d.asset d.holder d.award d.kw (unsigned_abs z == 1) d.cents)
+hold_number IsReady z d = ranged (pos 0) (pos 1) z (draft_of d.class d.asset d.holder d.award d.kw (unsigned_abs z == 1) d.cents)
 hold_number Cents z d = ranged (pos 1) (pos entry_most) z (draft_of d.class d.asset d.holder d.award d.kw d.ready (unsigned_abs z))
 
 abbrev pub with_class : Option Class → Draft → Draft

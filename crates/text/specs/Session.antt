@@ -20,7 +20,7 @@ use Rattle.text.specs.Reading.{reading}
 use Rattle.text.specs.declared.fault.Fault.TheVariants.{Form as InForm}
 use Rattle.text.specs.declared.fault.FormFault.{FormFault}
 use Rattle.text.specs.declared.fault.FormFault.TheVariants.{Text as InText}
-use Rattle.text.specs.declared.fault.Layer.TheVariants.{Book as By-book}
+use Rattle.text.specs.declared.fault.Layer.TheVariants.{Book as ByBook}
 use Rattle.text.specs.declared.fault.TextFault.TheVariants.{LongInput}
 use Rattle.text.specs.declared.form.Form.{Form}
 use Rattle.text.specs.declared.form.Form.TheVariants.{Close, List as Listing, Over, Payin, Ready, Term, Under, Uplift}
@@ -63,7 +63,7 @@ printed n s (renewal asset award commitment is_ready invoice) = cond (invoice ==
 printed n s (entered kind asset cents) = []
 printed n s (readying asset) = []
 printed n s (closing places rows left) = flat_map row_line rows ++ closed_line s.closes left
-printed n s (refused call number) = refused_line n 1 By-book number
+printed n s (refused call number) = refused_line n 1 ByBook number
 
 pub data Session (serves : ℕ) (rule : ℕ → List ℕ → List ℕ) (pays : Stand → ℤ → ℤ) (before : State) : List (List ℕ) → List ℕ → History → State → Type 0 where
   begun : Session serves rule pays before [] [] [] before

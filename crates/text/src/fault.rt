@@ -2,7 +2,7 @@
 ghost use Rattle.std.specs.Prelude.{◌≡◌};
 ghost use Rattle.text.specs.declared.fault.Fault.TheVariants.{Book as ByBook, Form as InForm};
 ghost use Rattle.text.specs.declared.fault.FormFault.TheVariants.{Text as InText};
-ghost use Rattle.text.specs.Fault.{byte as byte_of, layer as layer-of, number as number_of_lem};
+ghost use Rattle.text.specs.Fault.{byte as byte_of, layer as layer_of, number as number_of};
 
 #[derive(Clone, Copy)]
 pub enum TextFault {
@@ -39,7 +39,7 @@ pub enum Layer {
 impl Fault {
     // The number by which the fault is known outside.
     pub fn number(self) -> u64
-        ensures value { result ≡ number_of_lem self }
+        ensures value { result ≡ number_of self }
     {
         match self {
             Fault::Form(FormFault::Text(TextFault::LongInput | TextFault::LongLine)) => 1,
@@ -66,7 +66,7 @@ impl Fault {
 
     // Where it was found.
     pub fn layer(self) -> Layer
-        ensures value { result ≡ layer-of self }
+        ensures value { result ≡ layer_of self }
     {
         match self {
             Fault::Form(FormFault::Text(_)) => Layer::Text,

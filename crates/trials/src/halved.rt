@@ -1,6 +1,6 @@
 // A payment rule of the trials' own: half of the total, rounded toward zero.
 ghost use Rattle.std.specs.Prelude.{[]};
-ghost use Rattle.trials.specs.Halved.{halved as half_of_lem};
+ghost use Rattle.trials.specs.Halved.{halved as half_of};
 ghost use Rattle.std.proofs.Common.{rules};
 
 use payment::{PaymentRule, Standing};
@@ -9,7 +9,7 @@ use payment::{PaymentRule, Standing};
 pub struct Halved;
 
 impl PaymentRule for Halved {
-    ghost pays = { half_of_lem };
+    ghost pays = { half_of };
 
     ghost limits = { [] };
 

@@ -3,7 +3,7 @@ ghost use Rattle.std.specs.Prelude.{◌≡◌, ◌<◌, ◌≤◌, ◌++◌, len
 ghost use Rattle.sharing.specs.Rule.{Shareable, most_cents};
 ghost use Rattle.book.specs.Book.{view};
 ghost use Rattle.book.specs.Calls.{Step, close, closing};
-ghost use Rattle.book.specs.Close.{closed_state, pooled, residue as residue-of, residues as residues-of, rows as rows_of_lem, shares as shares_of};
+ghost use Rattle.book.specs.Close.{closed_state, pooled, residue as residue_of, residues as residues_of, rows as rows_of, shares as shares_of};
 ghost use Rattle.book.specs.Limits.{closes_most};
 ghost use Rattle.book.specs.Outcome.{outcome};
 
@@ -45,7 +45,7 @@ impl<R: Seats<N>, P: PaymentRule, const N: usize> Book<R, P, N> {
     fn share_class(&self, class: Class, claims: &mut [u64], shares: &mut [u64]) -> u64
         requires { (length claims.old ≡ length self.now.accounts.items) × (length shares.old ≡ length self.now.accounts.items) }
         ensures after { shares.new ≡ shares_of R.SharingRule.shares (view self.now) class }
-        ensures value { result ≡ residue-of R.SharingRule.shares (view self.now) class }
+        ensures value { result ≡ residue_of R.SharingRule.shares (view self.now) class }
     {
         let pool = self.pool_of(class);
         let sum = gather_claims(&self.accounts, class, claims);
@@ -62,9 +62,9 @@ impl<R: Seats<N>, P: PaymentRule, const N: usize> Book<R, P, N> {
         rows: &mut [Row],
     ) -> Closed
         requires { (self.old.closes < closes_most) × ((length claims.old ≡ length self.old.accounts.items) × ((length delivery.old ≡ length self.old.accounts.items) × ((length availability.old ≡ length self.old.accounts.items) × (length self.old.accounts.items ≤ length rows.old)))) }
-        ensures value { (result.rows ≡ length self.old.accounts.items) × (result.residues ≡ residues-of R.SharingRule.shares (view self.old)) }
+        ensures value { (result.rows ≡ length self.old.accounts.items) × (result.residues ≡ residues_of R.SharingRule.shares (view self.old)) }
         ensures after { view self.new ≡ closed_state R.SharingRule.shares P.PaymentRule.pays (view self.old) }
-        ensures rows { rows.new ≡ rows_of_lem R.SharingRule.shares P.PaymentRule.pays (view self.old) ++ drop (length self.old.accounts.items) rows.old }
+        ensures rows { rows.new ≡ rows_of R.SharingRule.shares P.PaymentRule.pays (view self.old) ++ drop (length self.old.accounts.items) rows.old }
     {
         let year = year(self.closes);
         let residues = ByClass {
@@ -94,7 +94,7 @@ impl<R: Seats<N>, P: PaymentRule, const N: usize> Book<R, P, N> {
     pub fn close(&mut self, rows: &mut [Row]) -> Result<Closed, Refusal>
         ensures step { Step N R.SharingRule.shares P.PaymentRule.pays (view self.old) (outcome (close (length rows.old)) (λ closed. closing (length rows.old) (take closed.rows rows.new) closed.residues) result) (view self.new) }
         ensures count { IfOk result (λ closed. closed.rows ≡ length (view self.old).accounts) }
-        ensures rows { rows.new ≡ (if is_ok result then rows_of_lem R.SharingRule.shares P.PaymentRule.pays (view self.old) ++ drop (length (view self.old).accounts) rows.old else rows.old) }
+        ensures rows { rows.new ≡ (if is_ok result then rows_of R.SharingRule.shares P.PaymentRule.pays (view self.old) ++ drop (length (view self.old).accounts) rows.old else rows.old) }
     {
         if self.closes >= CLOSES_MOST {
             return Err(Refusal::AllClosed);
