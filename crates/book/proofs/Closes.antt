@@ -1,17 +1,14 @@
 -- The work of a close, place by place. Assumes nothing.
-use Rattle.std.proofs.Common.{◌≡◌, ℕ, zero, suc, ◌+◌, ◌-◌, ◌<◌, ◌≤◌, ◌≢◌, List, [], ◌∷◌, ◌++◌, map, length, get_or, drop, set, ℤ, pos, sym, refl, ap, ◌∙◌, ⊎_elim, le_of_suc-le-suc, not-suc-le-zero, one-add, arith}
+use Rattle.std.proofs.Common.{◌≡◌, ℕ, zero, suc, ◌+◌, ◌-◌, ◌<◌, ◌≤◌, ◌≢◌, List, [], ◌∷◌, ◌++◌, map, length, get_or, drop, set, pos, sym, refl, ap, ◌∙◌, ⊎_elim, le_of_suc-le-suc, not-suc-le-zero, one-add, arith}
 use Rattle.std.proofs.lemmas.List.Edits.{fill_by_more}
 use Rattle.std.proofs.lemmas.List.{ext_get_or, get_or_append_left, get_or-append_right, get_or-drop, get_or-map, get_or-set_other, length-append, length-drop, length-map}
 use Rattle.std.proofs.lemmas.Bool.{cases_lt}
-use Rattle.payment.specs.Stand.{Stand}
-use Rattle.book.specs.Account.{account_of, award_in_force, balance, opened, standing}
+use Rattle.book.specs.Account.{opened}
 use Rattle.book.specs.Accounts.{at}
 use Rattle.book.specs.Class.{by_class, none, of}
 use Rattle.book.specs.Closable.{due_at}
-use Rattle.book.specs.Close.{Due, account_after, closed_ledger, closed_terms, due, dues, row, taken, total_of}
+use Rattle.book.specs.Close.{Due, due, dues}
 use Rattle.book.specs.declared.account.Account.{Account}
-use Rattle.book.specs.declared.account.Ledger.{Ledger}
-use Rattle.book.specs.declared.account.Terms.{Terms}
 use Rattle.book.specs.declared.class.ByClass.{ByClass}
 use Rattle.book.specs.declared.class.Class.{Class}
 use Rattle.book.specs.declared.class.Class.TheVariants.{Availability, Delivery}
@@ -86,14 +83,3 @@ pub each_is : (f : Account → ℕ) (xs : List Account) (ns : List ℕ) → leng
 each_is f xs ns same each =
     ext_get_or 0 ns (map f xs) (same ∙ sym (length-map xs f))
     (λ k h. let within : k < length xs = omega (arith, same) in each k within ∙ sym (get_or-map f xs k (opened 0 0) 0 within))
-
--- an account closed step by step is the account after the close, and its row the row
-module _ (pays : Stand → ℤ → ℤ) (year : ℕ) (x : Account) (share took : ByClass) (in_force whole paid : ℤ) (l : Ledger)
-    (award_is : in_force ≡ award_in_force year x.terms) (took_is : took ≡ taken in_force x.ledger) (whole_is : whole ≡ total_of in_force took share x.ledger)
-    (paid_is : paid ≡ pays (standing year x.terms) whole) (ledger_is : l ≡ closed_ledger in_force took share paid x.ledger) where
-  pub settled_account : (t : Terms) → t ≡ closed_terms x.terms → account_of x.asset x.holder t l ≡ account_after pays year (due x share)
-  settled_account t terms-are = cc
-
-  pub settled_row : (left : ℤ) → left ≡ balance l
-      → record { asset = x.asset; award = in_force; taken = took; share = share; payment = paid; balance = left } ≡ row pays year (due x share)
-  settled_row left left_is = cc

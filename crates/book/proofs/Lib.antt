@@ -1,7 +1,6 @@
 pub mod Places
 pub mod Sound
 pub mod Ways
-pub mod Verdicts
 pub mod Steps
 pub mod Closes
 pub mod AfterClose

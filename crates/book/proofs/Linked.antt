@@ -1,27 +1,38 @@
 -- What a history tells of the state that it led to. Assumes nothing.
-use Rattle.std.proofs.Common.{◌≡◌, ℕ, ◌+◌, ◌/◌, ◌≤◌, Bool, true, false, cond, ◌||◌, eqb, ltb, List, [], ◌∷◌, ◌++◌, map, length, get_or, ℤ, nat_abs, None, sym, refl, ap, ◌∙◌, subst, arith}
+use Rattle.std.proofs.Common.{◌≡◌, ℕ, zero, suc, ◌+◌, ◌/◌, ◌<◌, ◌≤◌, Bool, true, false, cond, not, ◌||◌, eqb, ltb, List, [], ◌∷◌, ◌++◌, map, length, get_or, ℤ, pos, nat_abs, Some, None, Option, sym, refl, ap, ◌∙◌, subst, ⊎_elim, arith}
 use Rattle.std.proofs.lemmas.List.{get_or-map, length-map, map_push}
 use Rattle.std.proofs.lemmas.Int.{ints}
-use Rattle.std.proofs.lemmas.Bool.{ltb-false, not-false, or_parts}
+use Rattle.std.proofs.lemmas.Bool.{cases_Bool, leb-true, ltb-false, not-false, or_parts}
 use Rattle.payment.specs.Stand.{Stand, award_most, commitment_most}
 use Rattle.book.specs.Account.{RangedTerms, award_in_force, opened}
 use Rattle.book.specs.Accounts.{Differ, account, at, change, listed}
-use Rattle.book.specs.Calls.{Event, Kind, Step, after_entry, closing, entered, entry, grounds, list, marked, on_ledger, on_terms, opening, over, paid, payin, ready, readying, refused, renewal, resolution, term, under, uplift, verdict}
+use Rattle.book.specs.Calls.{Call, Event, Kind, Step, after_entry, closing, entered, entry, grounds, list, marked, on_ledger, on_terms, opening, over, paid, payin, ready, readying, refused, renewal, resolution, term, under, unlisted, uplift, verdict}
 use Rattle.book.specs.Class.{plus}
 use Rattle.book.specs.Close.{account_after, closed_ledger, closed_terms, dues, shares}
 use Rattle.book.specs.Entries.{credited, renewed, settled}
 use Rattle.book.specs.History.{History, assets, closes, its_row, ledger_of, ledger_with, pools_of, terms_of, year_of}
 use Rattle.book.specs.Limits.{asset_most, off, off_way}
+use Rattle.book.specs.Refusal.{first}
 use Rattle.book.specs.State.{State, empty, state, year}
 use Rattle.book.specs.declared.account.Account.{Account}
 use Rattle.book.specs.declared.account.Ledger.{Ledger}
 use Rattle.book.specs.declared.account.Terms.{Terms}
 use Rattle.book.specs.declared.class.ByClass.{ByClass}
 use Rattle.book.specs.declared.class.Class.TheVariants.{Availability, Delivery}
-use Rattle.book.proofs.Verdicts.{none_hold}
+use Rattle.book.proofs.Closes.{length-dues}
 use Rattle.book.proofs.Lookups.{account_change, by_row, cond_same, ledger_closed, terms_closed}
 use Rattle.book.proofs.Sound.{differ_push}
 use Rattle.book.proofs.Ways.{not_off, renewed_ranged}
+
+-- where a call is not refused, none of its grounds holds
+pub none_hold : (gs : List (Bool × ℕ)) → first gs ≡ None → (i : ℕ) → (get_or gs i (false, 0)).0 ≡ false
+none_hold [] e i = refl
+none_hold ((true, n) ∷ gs) e i = absurd (some_none e)
+  where
+    some_none : Some n ≡ None → ⊥
+    some_none e = grind arith
+none_hold ((false, n) ∷ gs) e zero = refl
+none_hold ((false, n) ∷ gs) e (suc i) = none_hold gs e i
 
 -- assets in their places
 pub differ_like : (xs ys : List Account) → map (λ x. x.asset) ys ≡ map (λ x. x.asset) xs → Differ xs → Differ ys

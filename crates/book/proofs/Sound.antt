@@ -1,6 +1,6 @@
 -- What every book keeps, over a new account and over a change of one.
 -- Assumes nothing.
-use Rattle.std.proofs.Common.{◌≡◌, ℕ, zero, suc, ◌+◌, ◌*◌, ◌<◌, ◌≤◌, false, eqb, List, [], ◌∷◌, ◌++◌, length, set, ℤ, ◌+ℤ◌, neg_ℤ, vec_items, sum_by, sym, refl, ap, ◌∙◌, subst, ⊎_elim, le_of_suc-le-suc, not-suc-le-zero, arith}
+use Rattle.std.proofs.Common.{◌≡◌, ℕ, zero, suc, ◌+◌, ◌*◌, ◌<◌, ◌≤◌, Bool, true, false, ◌||◌, eqb, ◌≢◌, List, [], ◌∷◌, ◌++◌, length, get_or, set, ℤ, pos, negsuc, ◌+ℤ◌, ◌-ℤ◌, neg_ℤ, IfSome, Some, None, vec_items, sum_by, Option, sym, refl, ap, ◌∙◌, subst, ⊎_elim, le_of_suc-le-suc, not-suc-le-zero, arith, MatchOption}
 use Rattle.std.proofs.lemmas.List.{get_or_append_left, get_or_push, get_or-set_other, get_or-set_same, length_push, length-set}
 use Rattle.std.proofs.lemmas.Int.{ints}
 use Rattle.std.proofs.lemmas.List.Sums.{get_or-le-sum_by, sum_by_push, sum_by-set}
@@ -19,10 +19,10 @@ use Rattle.book.specs.Kept.{Kept}
 use Rattle.book.specs.Limits.{closes_most, entries_most}
 use Rattle.book.specs.Small.{Small, Tight}
 use Rattle.book.specs.declared.account.Account.{Account}
-use Rattle.book.specs.declared.book.Book.{Book}
 use Rattle.book.proofs.Ways.{credited_within}
 use Rattle.book.specs.declared.spot.Spot.{Spot}
 use Rattle.book.specs.declared.account.Terms.{Terms}
+use Rattle.book.specs.declared.book.Book.{Book}
 use Rattle.book.specs.declared.class.ByClass.{ByClass}
 use Rattle.book.specs.declared.class.Class.{Class}
 use Rattle.book.specs.declared.class.Class.TheVariants.{Availability, Delivery}
@@ -71,10 +71,6 @@ pub differ_set : (xs : List Account) (k : ℕ) (y : Account) → k < length xs �
 differ_set xs k y within its differ i j less h same =
     differ i j less (omega (arith, length-set xs k y)) (sym (same_asset xs k y within its i) ∙ same ∙ same_asset xs k y within its j)
 
-of_none : (class : Class) → of class none ≡ 0
-of_none Delivery = refl
-of_none Availability = refl
-
 pub kept_by : {R P : Type 0} {N : ℕ} {g : Sharing R} {h : Paying P} (b : Book R P N g h) → Kept N b.closes b.pools (vec_items b.accounts)
 kept_by b = record {
   few = b.few;
@@ -86,18 +82,9 @@ kept_by b = record {
   charges = b.charges_within;
 }
 
--- no account
-pub kept_none : (places : ℕ) (xs : List Account) → xs ≡ [] → Kept places 0 none xs
-kept_none places xs empty =
-    subst (Kept places 0 none) (sym empty) (record {
-      few = omega arith;
-      differ = λ i j less h same. not-suc-le-zero h;
-      names = λ i h. absurd (not-suc-le-zero h);
-      terms = λ i h. absurd (not-suc-le-zero h);
-      ledgers = λ i h. absurd (not-suc-le-zero h);
-      claims = λ class. omega arith;
-      charges = λ class. omega (arith, of_none class);
-    })
+of_none : (class : Class) → of class none ≡ 0
+of_none Delivery = refl
+of_none Availability = refl
 
 -- a new account
 pub kept_push : (places closes : ℕ) (pools : ByClass) (xs : List Account) (asset holder : ℕ) → Kept places closes pools xs
@@ -156,12 +143,6 @@ kept_set places closes pools pools' xs asset spot y kept found same_asset same-h
   where
     renamed : RangedName spot.account → RangedName y
     renamed (a, b, c, d) = (omega arith, omega arith, omega arith, omega arith)
-
--- the same of what is written, where it is this account and these pools
-pub kept_put : (places closes : ℕ) (pools pools' : ByClass) (xs : List Account) (place : ℕ) (put y : Account) → put ≡ y → pools' ≡ pools
-    → Kept places closes pools (set xs place y) → Kept places closes pools' (set xs place put)
-kept_put places closes pools pools' xs place put y written pooled kept =
-    subst (λ a. Kept places closes pools' (set xs place a)) (sym written) (subst (λ p. Kept places closes p (set xs place y)) (sym pooled) kept)
 
 -- an over
 pub kept_claiming : (places closes : ℕ) (pools : ByClass) (xs : List Account) (asset cents : ℕ) (class : Class) (spot : Spot) → Kept places closes pools xs
@@ -225,20 +206,22 @@ kept_terms places closes pools xs asset terms spot kept found ranged =
     (λ k. omega (arith, kept.claims k))
     (λ k. omega (arith, kept.charges k))
 
--- every ledger leaves room for arithmetic
-pub small_each : (places closes : ℕ) (pools : ByClass) (xs : List Account) → Kept places closes pools xs → closes ≤ closes_most → Each (λ a. Small a.ledger) xs
-small_each places closes pools xs kept in_time i h =
-    let l = kept.ledgers i h in
+-- the ledger at a spot leaves room for arithmetic
+pub small_at : (places closes : ℕ) (pools : ByClass) (xs : List Account) (asset : ℕ) (spot : Spot) → Kept places closes pools xs → closes ≤ closes_most
+    → Found asset xs spot → Small spot.account.ledger
+small_at places closes pools xs asset spot kept in_time found =
+    let l = (kept_at places closes pools xs asset spot kept found).ledger in
     record {
       general = (omega (arith, ints, l.0.0), omega (arith, ints, l.0.1));
       entries = (omega (arith, ints, l.1.0), omega (arith, ints, l.1.1));
-      claims = omega (arith, get_or-le-sum_by (claim Delivery) xs i (opened 0 0) h, get_or-le-sum_by (claim Availability) xs i (opened 0 0) h, kept.claims Delivery, kept.claims Availability);
-      charges = omega (arith, get_or-le-sum_by (charge Delivery) xs i (opened 0 0) h, get_or-le-sum_by (charge Availability) xs i (opened 0 0) h, kept.charges Delivery, kept.charges Availability);
+      claims = omega (arith, spot_within (claim Delivery) xs asset spot found, spot_within (claim Availability) xs asset spot found, kept.claims Delivery, kept.claims Availability);
+      charges = omega (arith, spot_within (charge Delivery) xs asset spot found, spot_within (charge Availability) xs asset spot found, kept.charges Delivery, kept.charges Availability);
     }
 
--- so does the ledger at a spot
-pub small_spot : (xs : List Account) (asset : ℕ) (spot : Spot) → Each (λ a. Small a.ledger) xs → Found asset xs spot → Small spot.account.ledger
-small_spot xs asset spot each found = subst (λ a. Small a.ledger) found.there (each spot.place found.within)
+pub small_found : (places closes : ℕ) (pools : ByClass) (xs : List Account) (asset : ℕ) (spot : Option Spot) → Kept places closes pools xs → closes ≤ closes_most
+    → MatchOption spot (listed asset xs ≡ false) (Found asset xs) → IfSome spot (λ s. Small s.account.ledger)
+small_found places closes pools xs asset (Some spot) kept in_time found = small_at places closes pools xs asset spot kept in_time found
+small_found places closes pools xs asset None kept in_time none = tt
 
 -- a sum paid in, no more than is owed, with terms that keep their ranges
 pub kept_crediting : (places closes : ℕ) (pools : ByClass) (xs : List Account) (asset cents : ℕ) (terms : Terms) (spot : Spot) → Kept places closes pools xs
@@ -262,6 +245,11 @@ kept_crediting places closes pools xs asset cents terms spot kept found ranged o
         + of k (plus pools (settled cents spot.account.ledger.charges)) ≤ most_cents + of k spot.account.ledger.charges
     charges Delivery = omega (arith, kept.charges Delivery)
     charges Availability = omega (arith, kept.charges Availability)
+
+pub ranged_found : (places closes : ℕ) (pools : ByClass) (xs : List Account) (asset : ℕ) (spot : Option Spot) → Kept places closes pools xs
+    → MatchOption spot (listed asset xs ≡ false) (Found asset xs) → IfSome spot (λ s. RangedTerms s.account.terms)
+ranged_found places closes pools xs asset (Some spot) kept found = (kept_at places closes pools xs asset spot kept found).terms
+ranged_found places closes pools xs asset None kept none = tt
 
 -- every ledger leaves room for a close
 pub tight_each : (places closes : ℕ) (pools : ByClass) (xs : List Account) → Kept places closes pools xs → closes ≤ closes_most → Each (λ a. Tight a.ledger) xs

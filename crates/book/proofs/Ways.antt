@@ -1,18 +1,17 @@
 -- What tests of ranges tell. Assumes nothing.
-use Rattle.std.proofs.Common.{◌≡◌, ℕ, zero, suc, ◌+◌, ◌-◌, ◌*◌, ◌/◌, ◌≤◌, min, Bool, true, false, cond, not, T, ltb, leb, ◌⊎◌, ℤ, pos, negsuc, ◌+ℤ◌, ◌-ℤ◌, neg_ℤ, nat_abs, ◌≤ℤ◌, refl, inl, inr, ⊎_elim, mul_comm, mul-le-mul_left, arith}
+use Rattle.std.proofs.Common.{◌≡◌, ℕ, zero, suc, ◌+◌, ◌-◌, ◌*◌, ◌/◌, ◌≤◌, min, Bool, true, false, cond, not, ltb, ◌⊎◌, ℤ, pos, negsuc, ◌+ℤ◌, ◌-ℤ◌, neg_ℤ, nat_abs, ◌≤ℤ◌, refl, inl, inr, ⊎_elim, mul_comm, mul-le-mul_left, arith}
 use native.Mathlib.Nat.{div-le_of_le-mul}
 use lib.Signed.{lt_z}
 use Rattle.std.specs.Int.{int_max}
 use Rattle.std.proofs.lemmas.Int.{clamps, ints}
-use Rattle.std.proofs.lemmas.Bool.{and_parts, both_ways, cond_both, le-ltb, leb-true, ltb-false, not-false, or_parts}
+use Rattle.std.proofs.lemmas.Bool.{both_ways, cond_both, le-ltb, ltb-false, not-false, or_parts}
 use Rattle.payment.specs.Rule.{Between}
 use Rattle.payment.specs.Stand.{award_most, cap_base_most, commitment_most}
-use Rattle.dispute.specs.Limits.{is_sum, sum_most}
 use Rattle.book.specs.Account.{EitherWay, RangedTerms, balance, owes_less}
 use Rattle.book.specs.Class.{both}
 use Rattle.book.specs.Close.{above_zero, total_of}
 use Rattle.book.specs.Entries.{renewed}
-use Rattle.book.specs.Limits.{balance_least, entries_most, off_way}
+use Rattle.book.specs.Limits.{balance_least, off_way}
 use Rattle.book.specs.Small.{Tight}
 use Rattle.book.specs.declared.account.Ledger.{Ledger}
 use Rattle.book.specs.declared.account.Terms.{Terms}
@@ -91,15 +90,3 @@ total_within l award taken share tight award-within taken_within share-within =
       omega (arith, ints, g.0, e.0, award-within.0, taken_within, share-within),
       omega (arith, ints, g.1, e.1, award-within.1, taken_within, share-within),
     )
-
--- a resolution's sum is within the limit of the month's entries
-pub sum_within : (z : ℤ) → T (is_sum z) → EitherWay entries_most z
-sum_within z told = near z (leb-true (nat_abs z) sum_most (and_parts (leb 1 (nat_abs z)) (leb (nat_abs z) sum_most) (is_true (is_sum z) told)).1)
-  where
-    is_true : (b : Bool) → T b → b ≡ true
-    is_true true told = refl
-    is_true false told = absurd told
-
-    near : (z : ℤ) → nat_abs z ≤ 1000000000 → EitherWay (pos 1000000000) z
-    near (pos n) h = (omega (arith, ints), omega (arith, ints, h))
-    near (negsuc n) h = (omega (arith, ints, h), omega (arith, ints))

@@ -1,5 +1,5 @@
 -- The law over histories, step by step. Assumes nothing.
-use Rattle.std.proofs.Common.{◌≡◌, ℕ, ◌+◌, ◌-◌, ◌<◌, ◌≤◌, min, Bool, true, false, cond, ◌&&◌, ◌||◌, eqb, List, [], ◌∷◌, ◌++◌, map, length, get_or, ℤ, pos, ◌+ℤ◌, nat_abs, ◌≤ℤ◌, None, sum_by, sum, sym, refl, ap, ◌∙◌, subst, arith}
+use Rattle.std.proofs.Common.{◌≡◌, ℕ, ◌+◌, ◌-◌, ◌<◌, ◌≤◌, min, Bool, true, false, cond, not, ◌&&◌, ◌||◌, eqb, List, [], ◌∷◌, ◌++◌, map, length, get_or, ℤ, pos, ◌+ℤ◌, ◌-ℤ◌, nat_abs, ◌≤ℤ◌, None, sum_by, sum, sym, refl, ap, ◌∙◌, subst, arith}
 use Rattle.std.proofs.lemmas.List.{ext_get_or, get_or-map, length-map}
 use Rattle.std.proofs.lemmas.Int.{ints}
 use Rattle.std.proofs.lemmas.List.Sums.{sum-map, sum_by_push}
@@ -7,13 +7,13 @@ use Rattle.std.proofs.lemmas.Bool.{not-false, or_parts, true≢false}
 use Rattle.payment.specs.Rule.{AllKept, Between, Limit, Owed}
 use Rattle.payment.specs.Stand.{InRange, Stand}
 use Rattle.book.specs.Account.{award_in_force, balance, opened, standing}
-use Rattle.book.specs.Accounts.{account, at, charge, charged, claim, claimed, listed}
-use Rattle.book.specs.Calls.{Event, Kind, Step, after_entry, closing, entered, entry, grounds, marked, on_ledger, on_terms, opening, over, paid, payin, ready, readying, refused, renewal, resolution, term, under, uplift, verdict}
-use Rattle.book.specs.Class.{none, of}
-use Rattle.book.specs.Close.{claims, closed_ledger, closed_state, due, pooled, residues as residues_at, row, rows, shares as shares_at, taken, taken_of, total_of}
-use Rattle.book.specs.Entries.{credited, renewed}
-use Rattle.book.specs.History.{History, all_shares, all_unders, among, assets, is_over, is_resolution, is_uplift, its_row, ledger_of, ledger_with, overs, payments, pools_of, residues, shares, term_award, terms_of, year_of}
-use Rattle.book.specs.Law.{Accounted, Answered, EveryClose, Run, Unwasted, Whole, begun, then}
+use Rattle.book.specs.Accounts.{account, at, change, charge, charged, claim, claimed, listed}
+use Rattle.book.specs.Calls.{Call, Event, Kind, Step, after_entry, closing, entered, entry, grounds, marked, on_ledger, on_terms, opening, over, paid, payin, ready, readying, refused, renewal, resolution, term, under, uplift, verdict}
+use Rattle.book.specs.Class.{none, of, plus}
+use Rattle.book.specs.Close.{account_after, all_dues, claims, closed_ledger, closed_state, due, dues, pooled, residues as residues_at, row, rows, shares as shares_at, taken, taken_of, total_of}
+use Rattle.book.specs.Entries.{credited, renewed, settled}
+use Rattle.book.specs.History.{History, all_shares, all_unders, among, assets, closes, is_over, is_resolution, is_under, is_uplift, its_row, ledger_of, ledger_with, overs, payments, pools_of, residues, shares, term_award, terms_of, year_of}
+use Rattle.book.specs.Law.{Accounted, Answered, Balanced, EveryClose, Run, Unwasted, Whole, Worked, begun, then}
 use Rattle.book.specs.Limits.{asset_most, entry_most, off, off_sum}
 use Rattle.book.specs.State.{State, empty, state, year}
 use Rattle.book.specs.declared.account.Account.{Account}
@@ -24,8 +24,8 @@ use Rattle.book.specs.declared.row.Row.{Row}
 use Rattle.book.proofs.AfterClose.{shares_within, standing_within}
 use Rattle.book.proofs.Audits.{Even, award_link, even_closing, even_entry, even_renewal, not_below}
 use Rattle.book.proofs.Charges.{all_met, charged_closed, list_of, rows_order, same_if_summed, share_of, shares_listed, taken_listed}
-use Rattle.book.proofs.Verdicts.{none_hold}
-use Rattle.book.proofs.Linked.{Linked, entry_listed, linked_begun, linked_step, same_year}
+use Rattle.book.proofs.Closes.{length-dues}
+use Rattle.book.proofs.Linked.{Linked, entry_listed, linked_begun, linked_step, none_hold, same_year}
 use Rattle.book.proofs.Places.{found}
 use Rattle.book.proofs.Lookups.{row_closed, row_for, row_within, sum_change}
 
@@ -236,9 +236,6 @@ module _ (serves : ℕ) (rule : ℕ → List ℕ → List ℕ) (each : (p : ℕ)
     answered_closing h written left link rows_are left_is =
         let owed = λ (a : ℕ). owes (standing (year_of h) (terms_of a h)) (told_total a h written) (standing_within (year_of h) (terms_of a h) (link.ranged a)) in
         record {
-          award = λ a is_among. ap (λ r. r.award) (row_told h written link rows_are a is_among);
-          taken = taken_told h written link rows_are;
-          pooled = λ class. pooled_told class h written left link rows_are left_is;
           in_order = ap (map (λ r. r.asset)) rows_are ∙ rows_order pays (year s) s.accounts (shares_at rule s Delivery) (shares_at rule s Availability) ∙ link.order;
           shared = λ class.
               ap (map (share_of class)) rows_are ∙ listed_shares class
@@ -248,8 +245,16 @@ module _ (serves : ℕ) (rule : ℕ → List ℕ → List ℕ) (each : (p : ℕ)
           paid = paid_told h written link rows_are;
           between = λ a is_among. subst (Between (told_total a h written)) (sym (paid_told h written link rows_are a is_among)) (owed a).between;
           kept = λ a is_among. subst (AllKept limits (standing (year_of h) (terms_of a h))) (sym (paid_told h written link rows_are a is_among)) (owed a).kept;
-          carried = carried_told h written link rows_are;
         }
+
+    worked_closing : (h : History) (written : List Row) (left : ByClass) → Linked h s → written ≡ rows rule pays s → left ≡ residues_at rule s → Worked written left h
+    unfolding told
+    worked_closing h written left link rows_are left_is = record {
+      award = λ a is_among. ap (λ r. r.award) (row_told h written link rows_are a is_among);
+      taken = taken_told h written link rows_are;
+      pooled = λ class. pooled_told class h written left link rows_are left_is;
+      carried = carried_told h written link rows_are;
+    }
 
   -- what holds after every run
   record Held (h : History) (s : State) : Type 0 where
@@ -259,6 +264,7 @@ module _ (serves : ℕ) (rule : ℕ → List ℕ → List ℕ) (each : (p : ℕ)
     accounted : (class : Class) → Accounted class h s
     unwasted : EveryClose Unwasted h
     answered : EveryClose (Answered rule pays limits) h
+    worked : EveryClose Worked h
 
   -- rows take no more than is owed and share no more than is claimed
   within_row : (h : History) (s : State) (written : List Row) → Linked h s → written ≡ rows rule pays s → (class : Class) (a : ℕ)
@@ -298,6 +304,7 @@ module _ (serves : ℕ) (rule : ℕ → List ℕ → List ℕ) (each : (p : ℕ)
     accounted = λ class. accounted_step class h s (opening b holder) s' (held.accounted class) step;
     unwasted = held.unwasted;
     answered = held.answered;
+    worked = held.worked;
   }
   held_step h s (renewal b award commitment is_ready sum) s' held step = record {
     link = linked_step serves rule pays h s (renewal b award commitment is_ready sum) s' held.link step;
@@ -306,6 +313,7 @@ module _ (serves : ℕ) (rule : ℕ → List ℕ → List ℕ) (each : (p : ℕ)
     accounted = λ class. accounted_step class h s (renewal b award commitment is_ready sum) s' (held.accounted class) step;
     unwasted = held.unwasted;
     answered = held.answered;
+    worked = held.worked;
   }
   held_step h s (entered kind b cents) s' held step = record {
     link = linked_step serves rule pays h s (entered kind b cents) s' held.link step;
@@ -314,6 +322,7 @@ module _ (serves : ℕ) (rule : ℕ → List ℕ → List ℕ) (each : (p : ℕ)
     accounted = λ class. accounted_step class h s (entered kind b cents) s' (held.accounted class) step;
     unwasted = held.unwasted;
     answered = held.answered;
+    worked = held.worked;
   }
   held_step h s (readying b) s' held step = record {
     link = linked_step serves rule pays h s (readying b) s' held.link step;
@@ -322,6 +331,7 @@ module _ (serves : ℕ) (rule : ℕ → List ℕ → List ℕ) (each : (p : ℕ)
     accounted = λ class. accounted_step class h s (readying b) s' (held.accounted class) step;
     unwasted = held.unwasted;
     answered = held.answered;
+    worked = held.worked;
   }
   held_step h s (closing places written left) s' held step = record {
     link = linked_step serves rule pays h s (closing places written left) s' held.link step;
@@ -330,6 +340,7 @@ module _ (serves : ℕ) (rule : ℕ → List ℕ → List ℕ) (each : (p : ℕ)
     accounted = λ class. accounted_step class h s (closing places written left) s' (held.accounted class) step;
     unwasted = (unwasted_closing s h written left held.link held.met step.1 step.2, held.unwasted);
     answered = (answered_closing s h written left held.link step.1 step.2, held.answered);
+    worked = (worked_closing s h written left held.link step.1 step.2, held.worked);
   }
   held_step h s (refused call n) s' held step = record {
     link = linked_step serves rule pays h s (refused call n) s' held.link step;
@@ -338,10 +349,11 @@ module _ (serves : ℕ) (rule : ℕ → List ℕ → List ℕ) (each : (p : ℕ)
     accounted = λ class. accounted_step class h s (refused call n) s' (held.accounted class) step;
     unwasted = held.unwasted;
     answered = held.answered;
+    worked = held.worked;
   }
 
   held_run : {h : History} {s : State} → Run serves rule pays h s → Held h s
-  held_run begun = record { link = linked_begun; even = λ a. refl; met = even_none; accounted = none_charged; unwasted = tt; answered = tt }
+  held_run begun = record { link = linked_begun; even = λ a. refl; met = even_none; accounted = none_charged; unwasted = tt; answered = tt; worked = tt }
     where
       even_none : (class : Class) (a : ℕ) → Met class a []
       even_none Delivery a = refl
@@ -362,3 +374,7 @@ module _ (serves : ℕ) (rule : ℕ → List ℕ → List ℕ) (each : (p : ℕ)
         unwasted = held.unwasted;
         answered = held.answered;
       }
+
+  -- and the other figures of its rows
+  pub every_row : (h : History) (s : State) → Run serves rule pays h s → EveryClose Worked h
+  every_row h s run = (held_run run).worked

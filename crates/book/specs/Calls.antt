@@ -2,11 +2,11 @@
 --   Kind      the entries that name an asset and a sum
 --   Call      the calls with what they are given; a close is given so many rows to write into
 --   Event     a call with its answer
---   grounds   on which a call is refused, with their numbers, in the order in which they are tested; of the kinds of
---             calls: entry_grounds, term_grounds, ready_grounds
+--   grounds   on which a call is refused, with their numbers, in the order in which they are tested
 --   Step      from state to state by an event
 -- Assumes nothing.
-use Rattle.std.specs.Prelude.{◌≡◌, ℕ, ◌+◌, Bool, false, not, ◌||◌, List, [], ◌∷◌, ◌++◌, length, ℤ, ◌+ℤ◌, Some, None, Option, ◌==◌, int_lt, nat_le, nat_lt, unsigned_abs}
+use Rattle.std.specs.Prelude.{◌≡◌, ℕ, ◌+◌, ◌≤◌, Bool, false, not, ◌||◌, List, [], ◌∷◌, ◌++◌, length, ℤ, pos, ◌+ℤ◌, neg_ℤ, Some, None, Option, ◌==◌, int_lt, nat_le, nat_lt, unsigned_abs}
+use Rattle.std.specs.Int.Signed.{le_z}
 use Rattle.payment.specs.Mark.{mark_number}
 use Rattle.payment.specs.Stand.{Stand, award_most, commitment_most}
 use Rattle.payment.specs.declared.mark.Mark.TheVariants.{ReadyNext}
@@ -18,7 +18,7 @@ use Rattle.book.specs.Close.{closed_state, residues, rows}
 use Rattle.book.specs.Entries.{adding, charging, claiming, credited, invoice, renewed, settled}
 use Rattle.book.specs.Limits.{asset_most, balance_least, closes_most, entries_most, entry_most, holder_most, off, off_sum, off_way}
 use Rattle.book.specs.Refusal.{first}
-use Rattle.book.specs.State.{State, month, month_after, state, year}
+use Rattle.book.specs.State.{State, month, state, year}
 use Rattle.book.specs.declared.account.Account.{Account}
 use Rattle.book.specs.declared.account.Ledger.{Ledger}
 use Rattle.book.specs.declared.account.Terms.{Terms}
@@ -57,9 +57,9 @@ unlisted s asset = not (listed asset s.accounts)
 abbrev pub idle : State → ℕ → Bool
 idle s asset = commitment_in_force (year s) (account asset s.accounts).terms == 0
 
-abbrev pub wrong_month : ℕ → Class → Bool
-wrong_month closes Delivery = false
-wrong_month closes Availability = not (month_after closes == 12)
+abbrev pub wrong_month : State → Class → Bool
+wrong_month s Delivery = false
+wrong_month s Availability = not (month s == 12)
 
 abbrev pub carried : State → ℕ → ℤ
 carried s asset = balance (account asset s.accounts).ledger
@@ -70,9 +70,9 @@ entries_past s asset cents = off_way entries_most ((account asset s.accounts).le
 -- on which any over or under is refused before its class total is looked at
 abbrev pub adjustment : State → Class → ℕ → ℤ → List (Bool × ℕ)
 adjustment s class asset cents =
-    (off asset_most asset || off_sum entry_most cents, 4) ∷ (unlisted s asset, 8) ∷ (wrong_month s.closes class, 9) ∷ (idle s asset, 11) ∷ []
+    (off asset_most asset || off_sum entry_most cents, 4) ∷ (unlisted s asset, 8) ∷ (wrong_month s class, 9) ∷ (idle s asset, 11) ∷ []
 
-abbrev pub entry_grounds : State → Kind → ℕ → ℤ → List (Bool × ℕ)
+abbrev entry_grounds : State → Kind → ℕ → ℤ → List (Bool × ℕ)
 entry_grounds s (over class) asset cents = adjustment s class asset cents ++ (nat_lt most_cents (claimed class s.accounts + unsigned_abs cents), 13) ∷ []
 entry_grounds s (under class) asset cents =
     adjustment s class asset cents ++ (nat_lt most_cents (charged class s.accounts + of class s.pools + unsigned_abs cents), 13) ∷ []
@@ -82,21 +82,15 @@ entry_grounds s resolution asset cents = (unlisted s asset, 8) ∷ (entries_past
 entry_grounds s payin asset cents =
     (off asset_most asset || off_sum entry_most cents, 4) ∷ (unlisted s asset, 8) ∷ (owes_less (account asset s.accounts).ledger (unsigned_abs cents), 14) ∷ []
 
-abbrev pub term_grounds : State → ℕ → ℤ → ℕ → List (Bool × ℕ)
-term_grounds s asset award commitment =
-    (off asset_most asset || (off_way award_most award || nat_lt commitment_most commitment), 4) ∷ (unlisted s asset, 8) ∷ (not (month s == 1), 9)
-    ∷ (((account asset s.accounts).terms.year == year s), 10) ∷ (int_lt (carried s asset) balance_least, 12) ∷ []
-
-abbrev pub ready_grounds : State → ℕ → List (Bool × ℕ)
-ready_grounds s asset =
-    (off asset_most asset, 4) ∷ (unlisted s asset, 8) ∷ (not (mark_number (account asset s.accounts).terms.mark == 0), 15) ∷ []
-
 abbrev pub grounds : ℕ → State → Call → List (Bool × ℕ)
 grounds serves s (list asset holder) =
     (off asset_most asset || off holder_most holder, 4) ∷ (listed asset s.accounts, 6) ∷ (nat_le serves (length s.accounts), 7) ∷ []
-grounds serves s (term asset award commitment is_ready) = term_grounds s asset award commitment
+grounds serves s (term asset award commitment is_ready) =
+    (off asset_most asset || (off_way award_most award || nat_lt commitment_most commitment), 4) ∷ (unlisted s asset, 8) ∷ (not (month s == 1), 9)
+    ∷ (((account asset s.accounts).terms.year == year s), 10) ∷ (int_lt (carried s asset) balance_least, 12) ∷ []
 grounds serves s (entry kind asset cents) = entry_grounds s kind asset cents
-grounds serves s (ready asset) = ready_grounds s asset
+grounds serves s (ready asset) =
+    (off asset_most asset, 4) ∷ (unlisted s asset, 8) ∷ (not (mark_number (account asset s.accounts).terms.mark == 0), 15) ∷ []
 grounds serves s (close places) = (nat_le closes_most s.closes, 5) ∷ (nat_lt places (length s.accounts), 16) ∷ []
 
 abbrev pub verdict : ℕ → State → Call → Option ℕ

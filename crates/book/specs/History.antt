@@ -11,13 +11,12 @@
 --   terms_of, ledger_of    the terms and the ledger of an asset, as the rules make them of the entries and answers
 --   pools_of               the open pools: what sums paid in took off charges since the last close
 -- Assumes nothing.
-use Rattle.std.specs.Prelude.{ℕ, ◌+◌, Bool, true, false, cond, ◌&&◌, ◌||◌, List, [], ◌∷◌, ◌++◌, ℤ, pos, ◌+ℤ◌, sum_by, ◌==◌, unsigned_abs}
+use Rattle.std.specs.Prelude.{ℕ, ◌+◌, ◌/◌, Bool, true, false, cond, ◌&&◌, ◌||◌, List, [], ◌∷◌, ◌++◌, ℤ, pos, ◌+ℤ◌, sum_by, ◌==◌, unsigned_abs}
 use Rattle.book.specs.Account.{award_in_force, opened}
-use Rattle.book.specs.Calls.{Event, Kind, closing, entered, marked, opening, over, payin, readying, refused, renewal, resolution, under, uplift}
+use Rattle.book.specs.Calls.{Call, Event, Kind, closing, entered, marked, opening, over, payin, readying, refused, renewal, resolution, under, uplift}
 use Rattle.book.specs.Class.{none, of, plus}
 use Rattle.book.specs.Close.{closed_ledger, closed_terms}
 use Rattle.book.specs.Entries.{adding, charging, claiming, credited, renewed, settled}
-use Rattle.book.specs.State.{year_after}
 use Rattle.book.specs.declared.account.Ledger.{Ledger}
 use Rattle.book.specs.declared.account.Terms.{Terms}
 use Rattle.book.specs.declared.class.ByClass.{ByClass}
@@ -38,7 +37,7 @@ closes (closing places rows left ∷ h) = closes h + 1
 closes (refused call n ∷ h) = closes h
 
 abbrev pub year_of : History → ℕ
-year_of h = year_after (closes h)
+year_of h = closes h / 12 + 1
 
 abbrev pub assets : History → List ℕ
 assets [] = []

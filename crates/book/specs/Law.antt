@@ -5,10 +5,11 @@
 --                payments plus carried balance
 --   Accounted    in a class: charges entered equal shares allotted, residues, open pool and charges still owed
 --   Unwasted     at a close: residue is added in a class only where no claim of the class is left unpaid
---   Answered     at a close: a row for each asset in listing order, with the award of the year, what the rules take, the
---                share that the rule answers for the claims on the pool, the payment that the pile answers for standing and
---                total, which lies between zero and the total and keeps every floor and cap, and what is then carried
---   EveryClose  what is said of a close, of every close in a history
+--   Answered     at a close: shares are what the rule answers for the claims, and payments what the pile answers for standing
+--                and total; each payment lies between zero and its total and keeps every floor and cap in the pile
+--   Worked       at a close: the award in a row is that of the year, what is taken is what the rules take, shares and residue are
+--                the open pool with all that is taken, and the balance in a row is what is then carried
+--   EveryClose   what is said of a close, of every close in a history
 --   Whole        all of this
 -- Assumes nothing.
 use Rattle.std.specs.Prelude.{◌≡◌, ℕ, ◌+◌, ◌<◌, true, List, [], ◌∷◌, map, ℤ, pos, ◌+ℤ◌, ◌-ℤ◌, ◌≤ℤ◌, sum_by}
@@ -47,9 +48,6 @@ Unwasted rows left h = (class : Class) → 0 < of class left → (a : ℕ) → o
 
 pub record Answered (rule : ℕ → List ℕ → List ℕ) (pays : Stand → ℤ → ℤ) (limits : List Limit) (rows : List Row) (left : ByClass) (h : History) : Type 0 where
   pub in_order : map (λ r. r.asset) rows ≡ assets h
-  pub award : (a : ℕ) → among a (assets h) ≡ true → (its_row a rows).award ≡ term_award a (year_of h) h
-  pub taken : (a : ℕ) → among a (assets h) ≡ true → (its_row a rows).taken ≡ takes (term_award a (year_of h) h) (ledger_of a h)
-  pub pooled : (class : Class) → sum_by (λ r. of class r.share) rows + of class left ≡ of class (pools_of h) + sum_by (λ r. of class r.taken) rows
   pub shared : (class : Class) → map (λ r. of class r.share) rows
       ≡ rule (sum_by (λ r. of class r.share) rows + of class left) (map (λ a. of class (ledger_of a h).claims) (assets h))
   pub paid : (a : ℕ) → among a (assets h) ≡ true
@@ -57,6 +55,11 @@ pub record Answered (rule : ℕ → List ℕ → List ℕ) (pays : Stand → ℤ
   pub between : (a : ℕ) → among a (assets h) ≡ true
       → Between (total_of (term_award a (year_of h) h) (its_row a rows).taken (its_row a rows).share (ledger_of a h)) (its_row a rows).payment
   pub kept : (a : ℕ) → among a (assets h) ≡ true → AllKept limits (standing (year_of h) (terms_of a h)) (its_row a rows).payment
+
+pub record Worked (rows : List Row) (left : ByClass) (h : History) : Type 0 where
+  pub award : (a : ℕ) → among a (assets h) ≡ true → (its_row a rows).award ≡ term_award a (year_of h) h
+  pub taken : (a : ℕ) → among a (assets h) ≡ true → (its_row a rows).taken ≡ takes (term_award a (year_of h) h) (ledger_of a h)
+  pub pooled : (class : Class) → sum_by (λ r. of class r.share) rows + of class left ≡ of class (pools_of h) + sum_by (λ r. of class r.taken) rows
   pub carried : (a : ℕ) → among a (assets h) ≡ true
       → (its_row a rows).balance ≡ balance (closed_ledger (term_award a (year_of h) h) (its_row a rows).taken (its_row a rows).share (its_row a rows).payment (ledger_of a h))
 

@@ -1,7 +1,6 @@
 -- What a book holds.
 --   State        the accounts in listing order, the open pools and the closes so far
 --   empty        the book as it opens
---   year_after, month_after   of the period that is open after so many closes
 --   year, month  of the period that is open
 -- Assumes nothing.
 use Rattle.std.specs.Prelude.{ℕ, ◌+◌, ◌/◌, ◌%◌, List, []}
@@ -20,14 +19,8 @@ state accounts pools closes = record { accounts = accounts; pools = pools; close
 abbrev pub empty : State
 empty = state [] none 0
 
-abbrev pub year_after : ℕ → ℕ
-year_after closes = closes / 12 + 1
-
-abbrev pub month_after : ℕ → ℕ
-month_after closes = closes % 12 + 1
-
 abbrev pub year : State → ℕ
-year s = year_after s.closes
+year s = s.closes / 12 + 1
 
 abbrev pub month : State → ℕ
-month s = month_after s.closes
+month s = s.closes % 12 + 1

@@ -3,10 +3,9 @@ use crate::class::ByClass;
 use payment::Mark;
 
 pub(crate) mod carried;
-mod changes;
 mod closing;
 mod in_force;
-mod invoice;
+pub(crate) mod invoice;
 mod opened;
 
 #[derive(Clone, Copy)]

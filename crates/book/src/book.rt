@@ -13,6 +13,7 @@ use payment::PaymentRule;
 use sharing::Seats;
 
 mod adjustments;
+mod calendar;
 mod closing;
 mod entries;
 mod listing;

@@ -3,11 +3,9 @@
 
 mod account;
 mod book;
-mod calendar;
 mod class;
 mod figures;
 mod find;
-mod grounds;
 mod limits;
 mod pooling;
 mod refusal;

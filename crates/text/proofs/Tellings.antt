@@ -6,7 +6,7 @@ use Rattle.std.proofs.lemmas.List.{append-nil, length-append, length_push}
 use Rattle.payment.specs.Rule.{Limit}
 use Rattle.payment.specs.Stand.{Stand}
 use Rattle.book.specs.History.{History}
-use Rattle.book.specs.Law.{Run, Whole, begun as begun_run, then}
+use Rattle.book.specs.Law.{EveryClose, Run, Whole, Worked, begun as begun_run, then}
 use Rattle.book.specs.State.{State, empty}
 use Rattle.book.specs.declared.row.Row.{Row}
 use Rattle.text.specs.Answer.{Came, Entered, text}
@@ -105,7 +105,8 @@ not_read serves rule pays before input (Err x) long e = refl
 -- a session over a book that was empty
 pub settled : {serves : ℕ} {rule : ℕ → List ℕ → List ℕ} {pays : Stand → ℤ → ℤ} {limits : List Limit} {input out : List ℕ} {s : State}
     → ((h : History) (s : State) → Run serves rule pays h s → Whole rule pays limits h s)
+    → ((h : History) (s : State) → Run serves rule pays h s → EveryClose Worked h)
     → CarriedOn serves rule pays empty input out s → Settled serves rule pays limits input out s
-settled {serves = serves} {rule = rule} {pays = pays} {s = s} law x =
+settled {serves = serves} {rule = rule} {pays = pays} {s = s} law rowed x =
     let run : Run serves rule pays x.history s = subst (λ h. Run serves rule pays h s) (append-nil x.history) (x.goes_on [] begun_run) in
-    record { history = x.history; transcript = x.transcript; only = x.only; run = run; whole = law x.history s run }
+    record { history = x.history; transcript = x.transcript; only = x.only; run = run; whole = law x.history s run; worked = rowed x.history s run }

@@ -7,7 +7,7 @@ use Rattle.std.specs.Prelude.{ℕ, List, ◌++◌, ℤ}
 use Rattle.payment.specs.Rule.{Limit}
 use Rattle.payment.specs.Stand.{Stand}
 use Rattle.book.specs.History.{History}
-use Rattle.book.specs.Law.{Run, Whole}
+use Rattle.book.specs.Law.{EveryClose, Run, Whole, Worked}
 use Rattle.book.specs.State.{State, empty}
 use Rattle.text.specs.Session.{OnlyTranscript, Transcript}
 
@@ -23,3 +23,4 @@ pub record Settled (serves : ℕ) (rule : ℕ → List ℕ → List ℕ) (pays :
   pub only : OnlyTranscript serves rule pays empty input out after
   pub run : Run serves rule pays history after
   pub whole : Whole rule pays limits history after
+  pub worked : EveryClose Worked history

@@ -1,7 +1,7 @@
 // What a ledger carries, and a sum paid into it.
-ghost use Rattle.std.specs.Prelude.{◌≡◌, ◌≤◌, ◌+ℤ◌};
+ghost use Rattle.std.specs.Prelude.{◌≡◌, ◌≤◌, true, false, ◌+ℤ◌, MatchOption};
 ghost use Rattle.book.specs.Account.{EitherWay, balance, owes_less};
-ghost use Rattle.book.specs.Entries.{credited, settled};
+ghost use Rattle.book.specs.Entries.{adding, credited, settled};
 ghost use Rattle.book.specs.Limits.{entries_most, off_way};
 ghost use Rattle.book.specs.Small.{Small};
 
@@ -29,12 +29,21 @@ impl Ledger {
         carried >= 0 || cents > carried.unsigned_abs()
     }
 
-    // Whether the month's entries would pass their limit with this sum.
-    pub(crate) fn entries_past(&self, cents: i64) -> bool
+    // The ledger with more or less in the month's entries, where they keep their limit.
+    pub(crate) fn added(&self, cents: i64) -> Option<Ledger>
         requires { (Small self.now) × (EitherWay entries_most cents) }
-        ensures value { result ≡ off_way entries_most (self.now.entries +ℤ cents) }
+        ensures cases { MatchOption result (off_way entries_most (self.now.entries +ℤ cents) ≡ true) (λ l. (off_way entries_most (self.now.entries +ℤ cents) ≡ false) × (l ≡ adding cents self.now)) }
     {
-        off_way(ENTRIES_MOST, self.entries + cents)
+        let entries = self.entries + cents;
+        if off_way(ENTRIES_MOST, entries) {
+            return None;
+        }
+        Some(Ledger {
+            general: self.general,
+            entries,
+            claims: self.claims,
+            charges: self.charges,
+        })
     }
 
     // The ledger with a sum paid in: it lowers charges, and the rest raises the general balance.

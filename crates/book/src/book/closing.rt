@@ -8,7 +8,6 @@ ghost use Rattle.book.specs.Limits.{closes_most};
 ghost use Rattle.book.specs.Outcome.{outcome};
 
 use crate::book::Book;
-use crate::calendar::year;
 use crate::class::{ByClass, Class};
 use crate::limits::CLOSES_MOST;
 use crate::pooling::{gather_claims, taken_by_all};
@@ -38,7 +37,7 @@ impl<R: Seats<N>, P: PaymentRule, const N: usize> Book<R, P, N> {
         ensures value { result ≡ pooled (view self.now) class }
         ensures bound { result ≤ most_cents }
     {
-        self.pools.of(class) + taken_by_all(&self.accounts, year(self.closes), class)
+        self.pools.of(class) + taken_by_all(&self.accounts, self.year(), class)
     }
 
     // Shares the pool of a class among its claims, and answers what no claim took. The claims go into a list of their own.
@@ -66,7 +65,7 @@ impl<R: Seats<N>, P: PaymentRule, const N: usize> Book<R, P, N> {
         ensures after { view self.new ≡ closed_state R.SharingRule.shares P.PaymentRule.pays (view self.old) }
         ensures rows { rows.new ≡ rows_of R.SharingRule.shares P.PaymentRule.pays (view self.old) ++ drop (length self.old.accounts.items) rows.old }
     {
-        let year = year(self.closes);
+        let year = self.year();
         let residues = ByClass {
             delivery: self.share_class(Class::Delivery, claims, delivery),
             availability: self.share_class(Class::Availability, claims, availability),

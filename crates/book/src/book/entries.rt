@@ -1,22 +1,48 @@
-// Uplift.
+// Uplift and the month's entries.
 ghost use Rattle.std.specs.Prelude.{pos};
+ghost use Rattle.book.specs.Account.{EitherWay};
 ghost use Rattle.book.specs.Book.{view};
 ghost use Rattle.book.specs.Calls.{Step, entered, entry, uplift};
-ghost use Rattle.book.specs.Outcome.{outcome};
+ghost use Rattle.book.specs.Find.{Found};
+ghost use Rattle.book.specs.Limits.{entries_most};
+ghost use Rattle.book.specs.Outcome.{Added, outcome};
+ghost use Rattle.book.specs.Small.{Small};
 
 use crate::book::Book;
-use crate::grounds::sums::may_uplift;
+use crate::limits::{ASSET_MOST, ENTRY_MOST, off};
 use crate::refusal::Refusal;
+use crate::spot::Spot;
 use payment::PaymentRule;
 use sharing::Seats;
 
 impl<R: Seats<N>, P: PaymentRule, const N: usize> Book<R, P, N> {
+    // Adds to the month's entries of an account, within their limit.
+    pub(crate) fn add(&mut self, asset: u64, spot: Spot, cents: i64) -> Result<(), Refusal>
+        requires { (Found asset self.old.accounts.items spot) × ((Small spot.account.ledger) × (EitherWay entries_most cents)) }
+        ensures cases { Added (view self.old) asset cents result (view self.new) }
+    {
+        let mut account = spot.account;
+        let Some(ledger) = account.ledger.added(cents) else {
+            return Err(Refusal::PastLimit);
+        };
+        account.ledger = ledger;
+        self.put(spot.place, account, self.pools);
+        Ok(())
+    }
+
     // Raises the month's entries.
     pub fn uplift(&mut self, asset: u64, cents: u64) -> Result<(), Refusal>
         ensures step { Step N R.SharingRule.shares P.PaymentRule.pays (view self.old) (outcome (entry uplift asset (pos cents)) (λ _. entered uplift asset (pos cents)) result) (view self.new) }
     {
-        let spot = may_uplift(&self.accounts, self.closes, asset, cents)?;
-        self.put(spot.place, spot.account.adding(cents as i64), self.pools);
-        Ok(())
+        if off(ASSET_MOST, asset) || off(ENTRY_MOST, cents) {
+            return Err(Refusal::OutOfRange);
+        }
+        let Some(spot) = self.locate(asset) else {
+            return Err(Refusal::NotListed);
+        };
+        if spot.account.terms.commitment_in_force(self.year()) == 0 {
+            return Err(Refusal::NoCommitment);
+        }
+        self.add(asset, spot, cents as i64)
     }
 }

@@ -11,7 +11,7 @@ ghost use Rattle.book.specs.Small.{Small};
 use crate::account::Terms;
 use crate::account::carried::settled;
 use crate::book::Book;
-use crate::grounds::sums::may_pay_in;
+use crate::limits::{ASSET_MOST, ENTRY_MOST, off};
 use crate::refusal::Refusal;
 use crate::spot::Spot;
 use payment::PaymentRule;
@@ -23,15 +23,26 @@ impl<R: Seats<N>, P: PaymentRule, const N: usize> Book<R, P, N> {
         requires { (Found asset self.old.accounts.items spot) × ((Small spot.account.ledger) × ((RangedTerms terms) × ((cents ≤ above_zero (neg_ℤ (balance spot.account.ledger))) × (cents ≤ 4000000000)))) }
         ensures after { view self.new ≡ paid asset cents (on_terms (λ _. terms)) (view self.old) }
     {
-        let pools = self.pools.plus(settled(cents, spot.account.ledger.charges));
-        self.put(spot.place, spot.account.paid(terms, cents), pools);
+        let mut account = spot.account;
+        let pools = self.pools.plus(settled(cents, account.ledger.charges));
+        account.terms = terms;
+        account.ledger = account.ledger.credited(cents);
+        self.put(spot.place, account, pools);
     }
 
     // Credits an asset that owes with a sum that it paid.
     pub fn payin(&mut self, asset: u64, cents: u64) -> Result<(), Refusal>
         ensures step { Step N R.SharingRule.shares P.PaymentRule.pays (view self.old) (outcome (entry payin asset (pos cents)) (λ _. entered payin asset (pos cents)) result) (view self.new) }
     {
-        let spot = may_pay_in(&self.accounts, asset, cents)?;
+        if off(ASSET_MOST, asset) || off(ENTRY_MOST, cents) {
+            return Err(Refusal::OutOfRange);
+        }
+        let Some(spot) = self.locate(asset) else {
+            return Err(Refusal::NotListed);
+        };
+        if spot.account.ledger.owes_less(cents) {
+            return Err(Refusal::NotOwed);
+        }
         self.credit(asset, spot, spot.account.terms, cents);
         Ok(())
     }

@@ -6,7 +6,6 @@ ghost use Rattle.book.specs.Limits.{entries_most};
 ghost use Rattle.book.specs.Outcome.{Same, outcome, posted};
 
 use crate::book::Book;
-use crate::grounds::sums::may_post;
 use crate::refusal::Refusal;
 use dispute::Resolution;
 use payment::PaymentRule;
@@ -18,9 +17,10 @@ impl<R: Seats<N>, P: PaymentRule, const N: usize> Book<R, P, N> {
         requires { EitherWay entries_most cents }
         ensures step { Step N R.SharingRule.shares P.PaymentRule.pays (view self.old) (outcome (entry posting asset cents) (λ _. entered posting asset cents) result) (view self.new) }
     {
-        let spot = may_post(&self.accounts, asset, cents)?;
-        self.put(spot.place, spot.account.adding(cents), self.pools);
-        Ok(())
+        let Some(spot) = self.locate(asset) else {
+            return Err(Refusal::NotListed);
+        };
+        self.add(asset, spot, cents)
     }
 
     // Posts a resolution to its asset's month, or hands it back.

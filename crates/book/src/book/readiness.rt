@@ -4,9 +4,9 @@ ghost use Rattle.book.specs.Calls.{Step, ready, readying};
 ghost use Rattle.book.specs.Outcome.{outcome};
 
 use crate::book::Book;
-use crate::grounds::terms::may_mark;
+use crate::limits::{ASSET_MOST, off};
 use crate::refusal::Refusal;
-use payment::PaymentRule;
+use payment::{Mark, PaymentRule};
 use sharing::Seats;
 
 impl<R: Seats<N>, P: PaymentRule, const N: usize> Book<R, P, N> {
@@ -14,8 +14,18 @@ impl<R: Seats<N>, P: PaymentRule, const N: usize> Book<R, P, N> {
     pub fn ready(&mut self, asset: u64) -> Result<(), Refusal>
         ensures step { Step N R.SharingRule.shares P.PaymentRule.pays (view self.old) (outcome (ready asset) (λ _. readying asset) result) (view self.new) }
     {
-        let spot = may_mark(&self.accounts, asset)?;
-        self.put(spot.place, spot.account.marked(), self.pools);
+        if off(ASSET_MOST, asset) {
+            return Err(Refusal::OutOfRange);
+        }
+        let Some(spot) = self.locate(asset) else {
+            return Err(Refusal::NotListed);
+        };
+        let mut account = spot.account;
+        if account.terms.mark.number() != 0 {
+            return Err(Refusal::Marked);
+        }
+        account.terms.mark = Mark::ReadyNext;
+        self.put(spot.place, account, self.pools);
         Ok(())
     }
 }

@@ -3,11 +3,11 @@ ghost use Rattle.book.specs.Book.{view};
 ghost use Rattle.book.specs.Calls.{Step, renewal, term};
 ghost use Rattle.book.specs.Outcome.{outcome};
 
+use crate::account::invoice::invoice_of;
 use crate::book::Book;
-use crate::calendar::year;
-use crate::grounds::terms::may_renew;
+use crate::limits::{ASSET_MOST, BALANCE_LEAST, off, off_way};
 use crate::refusal::Refusal;
-use payment::PaymentRule;
+use payment::{AWARD_MOST, COMMITMENT_MOST, PaymentRule};
 use sharing::Seats;
 
 impl<R: Seats<N>, P: PaymentRule, const N: usize> Book<R, P, N> {
@@ -21,11 +21,31 @@ impl<R: Seats<N>, P: PaymentRule, const N: usize> Book<R, P, N> {
     ) -> Result<u64, Refusal>
         ensures step { Step N R.SharingRule.shares P.PaymentRule.pays (view self.old) (outcome (term asset award commitment ready) (λ invoice. renewal asset award commitment ready invoice) result) (view self.new) }
     {
-        let spot = may_renew(&self.accounts, self.closes, asset, award, commitment)?;
-        let invoice = spot.account.invoice(award);
-        let year = year(self.closes);
-        let terms = spot.account.terms.renewed(year, award, commitment, ready);
-        self.credit(asset, spot, terms, invoice);
+        if off(ASSET_MOST, asset) || off_way(AWARD_MOST, award) || commitment > COMMITMENT_MOST {
+            return Err(Refusal::OutOfRange);
+        }
+        let Some(spot) = self.locate(asset) else {
+            return Err(Refusal::NotListed);
+        };
+        if self.month() != 1 {
+            return Err(Refusal::WrongMonth);
+        }
+        let year = self.year();
+        let terms = spot.account.terms;
+        if terms.year == year {
+            return Err(Refusal::TermGiven);
+        }
+        let carried = spot.account.ledger.balance();
+        if carried < BALANCE_LEAST {
+            return Err(Refusal::TooFarBelow);
+        }
+        let invoice = invoice_of(terms.award, award, carried);
+        self.credit(
+            asset,
+            spot,
+            terms.renewed(year, award, commitment, ready),
+            invoice,
+        );
         Ok(invoice)
     }
 }

@@ -1,20 +1,11 @@
-use Rattle.std.proofs.Common.{◌≡◌, get_or, sym, refl, ap, ◌∙◌, subst, not-suc-le-zero, arith}
+use Rattle.std.proofs.Common.{◌≡◌, ℕ, ◌<◌, get_or, ap, ◌∙◌, arith, rules}
 use Rattle.book.specs.Account.{opened}
 use Rattle.book.specs.Accounts.{at}
 use Rattle.book.specs.Class.{by_class}
-use Rattle.book.specs.Closable.{Closable, due_at}
+use Rattle.book.specs.Closable.{due_at}
 use Rattle.book.specs.Close.{account_after, due, row}
 use Rattle.book.proofs.Closes.{blank_row, fill_more, filled_all, filled_front, rest_more}
 use Rattle.book.proofs.settling.settle_all.Goals as goal
-
-pub loop-i-init : goal.loop-i-init
-loop-i-init g c = (λ k h. absurd (not-suc-le-zero h), λ k h. refl, λ k d h. absurd (not-suc-le-zero h), λ k d h. refl)
-
-pub settle_one-settled-requires : goal.settle_one-settled-requires
-settle_one-settled-requires g c =
-    let i = c.loop-i.i in
-    subst (λ x. Closable x (by_class (get_or c.args.delivery.now i 0) (get_or c.args.availability.now i 0))) (sym (c.loop-i.invariant.1 i (omega arith)))
-    (c.requires.1.1.1 i c.loop-i-test.true)
 
 pub loop-i-preserved : goal.loop-i-preserved
 loop-i-preserved g c =

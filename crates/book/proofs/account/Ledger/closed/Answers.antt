@@ -1,29 +1,12 @@
-use Rattle.std.proofs.Common.{◌≡◌, pos, ◌-ℤ◌, sym, ap, subst, arith, w64, to_z, of_z, rules}
+use Rattle.std.proofs.Common.{◌≡◌, ◌+◌, ◌≤◌, pos, ◌-ℤ◌, sym, ap, ◌∙◌, subst, arith, w64, SFits, to_z, of_z, rules}
 use Rattle.std.proofs.lemmas.Int.{ints, to_z-of_z}
-use Rattle.payment.specs.Stand.{award_most}
-use Rattle.book.specs.Account.{EitherWay}
+use Rattle.payment.specs.Rule.{Between}
+use Rattle.book.specs.Account.{EitherWay, ledger_of}
 use Rattle.book.specs.Class.{minus}
 use Rattle.book.specs.Close.{total_of}
+use Rattle.book.specs.Small.{Small}
 use Rattle.book.proofs.Ways.{left_within, total_within}
 use Rattle.book.proofs.account.Ledger.closed.Goals as goal
-
-pub total-requires : goal.total-requires
-total-requires c = (
-  c.requires.0,
-  (
-    subst (EitherWay award_most) (sym (to_z-of_z w64 c.args.award c.ranges.award)) c.requires.1.0,
-    (
-      omega (arith, c.requires.0.charges, c.requires.1.1.0.0, c.requires.1.1.0.1),
-      omega (arith, c.requires.0.claims, c.requires.1.1.1.0.0, c.requires.1.1.1.0.1),
-    ),
-  ),
-)
-
-pub minus-requires : goal.minus-requires
-minus-requires c = (c.requires.1.1.1.0.0, c.requires.1.1.1.0.1)
-
-pub minus-requires-2 : goal.minus-requires-2
-minus-requires-2 c = (c.requires.1.1.0.0, c.requires.1.1.0.1)
 
 pub returns : goal.returns
 returns c =

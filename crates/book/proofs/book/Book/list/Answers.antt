@@ -1,41 +1,22 @@
-use Rattle.std.proofs.Common.{[], ◌∷◌, ◌++◌, vec_items, sym, ap, ◌∙◌, subst, arith}
-use Rattle.book.specs.Book.{view}
-use Rattle.book.specs.Calls.{grounds, list, opening}
-use Rattle.book.specs.Class.{none}
+use Rattle.std.proofs.Common.{◌≡◌, ◌<◌, ◌≤◌, false, [], ◌∷◌, ◌++◌, length, vec_items, vec_capacity, sym, ap, ◌∙◌, subst, rules}
+use Rattle.book.specs.Account.{RangedName, opened}
+use Rattle.book.specs.Accounts.{listed}
 use Rattle.book.specs.Kept.{Kept}
-use Rattle.book.specs.State.{state}
 use Rattle.book.proofs.Sound.{kept_by, kept_push}
-use Rattle.book.proofs.Verdicts.{list_free, refused_by, refused_in, taken_in}
+use Rattle.book.proofs.book.Book.list.Given as given
 use Rattle.book.proofs.book.Book.list.Goals as goal
 
-pub returns-in_err-may_list : goal.returns-in_err-may_list
-returns-in_err-may_list g c =
-    let b = c.args.self.now in
-    let xs = vec_items b.accounts in
-    let why = c.in_err-may_list.field-0.0 in
-    record {
-      step =
-          refused_by g.row.N g.R.SharingRule.shares g.P.PaymentRule.pays (view b) (list c.args.asset c.args.holder) (λ _. opening c.args.asset c.args.holder) c.from_residual.result why c.from_residual.ensures.1
-          (refused_in xs c.deref.result.now c.deref.ensures.value (λ ys. grounds g.row.N (state ys none 0) (list c.args.asset c.args.holder)) why c.in_err-may_list.ensures.cases);
-    }
-
-pub push_reserved-requires : goal.push_reserved-requires
-push_reserved-requires g c =
-    let b = c.args.self.now in
-    let xs = vec_items b.accounts in
-    let taken = taken_in xs c.deref.result.now c.deref.ensures.value (λ ys. grounds g.row.N (state ys none 0) (list c.args.asset c.args.holder)) c.in_ok-may_list.ensures.cases in
-    omega (arith, b.room, (list_free g.row.N (view b) c.args.asset c.args.holder taken).0)
+kept : (g : given.Over) (c : goal.After-push_reserved g) → Kept g.row.N c.args.self.now.closes c.args.self.now.pools (vec_items c.push_reserved.new.self)
+kept g c =
+    let xs = vec_items c.args.self.now.accounts in
+    subst (Kept g.row.N c.args.self.now.closes c.args.self.now.pools) (sym (c.push_reserved.ensures.items ∙ ap (λ x. xs ++ x ∷ []) c.opened.ensures.value))
+    (kept_push g.row.N c.args.self.now.closes c.args.self.now.pools xs c.args.asset c.args.holder (kept_by c.args.self.now) (search rules) (search rules) (search rules))
 
 pub invariant_of-self : goal.invariant_of-self
 invariant_of-self g c =
-    let b = c.args.self.now in
-    let xs = vec_items b.accounts in
-    let taken = taken_in xs c.deref.result.now c.deref.ensures.value (λ ys. grounds g.row.N (state ys none 0) (list c.args.asset c.args.holder)) c.in_ok-may_list.ensures.cases in
-    let free = list_free g.row.N (view b) c.args.asset c.args.holder taken in
-    let k = subst (Kept g.row.N b.closes b.pools) (sym (c.push_reserved.ensures.items ∙ ap (λ x. xs ++ x ∷ []) c.opened.ensures.value))
-    (kept_push g.row.N b.closes b.pools xs c.args.asset c.args.holder (kept_by b) free.0 free.1 free.2) in
+    let k = kept g c in
     record {
-      room = omega (arith, b.room, c.push_reserved.ensures.capacity);
+      room = search rules;
       few = k.few;
       differ = k.differ;
       names_ranged = k.names;
@@ -43,16 +24,5 @@ invariant_of-self g c =
       ledgers_ranged = k.ledgers;
       claims_within = k.claims;
       charges_within = k.charges;
-      in_time = b.in_time;
-    }
-
-pub returns : goal.returns
-returns g c =
-    let b = c.args.self.now in
-    let xs = vec_items b.accounts in
-    record {
-      step = (
-        taken_in xs c.deref.result.now c.deref.ensures.value (λ ys. grounds g.row.N (state ys none 0) (list c.args.asset c.args.holder)) c.in_ok-may_list.ensures.cases,
-        ap (λ ys. state ys b.pools b.closes) (c.push_reserved.ensures.items ∙ ap (λ x. xs ++ x ∷ []) c.opened.ensures.value),
-      );
+      in_time = c.args.self.now.in_time;
     }

@@ -1,59 +1,32 @@
-use Rattle.std.proofs.Common.{◌≤◌, pos, vec_items, sym, refl, subst, arith, rules}
+use Rattle.std.proofs.Common.{◌+◌, ◌≤◌, set, vec_items, sym, subst, arith, rules}
 use Rattle.sharing.specs.Rule.{most_cents}
-use Rattle.book.specs.Accounts.{charge, charged, claimed}
-use Rattle.book.specs.Book.{view}
-use Rattle.book.specs.Calls.{entered, entry, entry_grounds, on_ledger, under}
-use Rattle.book.specs.Entries.{charging}
-use Rattle.book.specs.State.{state}
-use Rattle.book.proofs.Sound.{kept_by, kept_charging, kept_put, spot_within}
-use Rattle.book.proofs.Steps.{changed_at}
-use Rattle.book.proofs.Verdicts.{charge_room, found_in, refused_by, refused_in, taken_in}
+use Rattle.book.specs.Account.{ledger_of}
+use Rattle.book.specs.Accounts.{charge, charged}
+use Rattle.book.specs.Class.{of}
+use Rattle.book.specs.Calls.{on_ledger}
+use Rattle.book.specs.Kept.{Kept}
+use Rattle.book.proofs.Sound.{kept_by, kept_charging, spot_within}
 use Rattle.book.proofs.book.Book.under.Goals as goal
 
-pub may_charge-requires : goal.may_charge-requires
-may_charge-requires g c =
-    let b = c.args.self.now in
-    subst (λ ys. (claimed c.args.class ys ≤ most_cents) × (charged c.args.class ys ≤ most_cents)) (sym c.deref.ensures.value)
-    (b.claims_within c.args.class, omega (arith, b.charges_within c.args.class))
-
-pub returns-in_err-spot : goal.returns-in_err-spot
-returns-in_err-spot g c =
+pub more-account-requires : goal.more-account-requires
+more-account-requires g c =
     let b = c.args.self.now in
     let xs = vec_items b.accounts in
-    let why = c.in_err-spot.field-0.0 in
-    record {
-      step =
-          refused_by g.row.N g.R.SharingRule.shares g.P.PaymentRule.pays (view b) (entry (under c.args.class) c.args.asset (pos c.args.cents)) (λ _. entered (under c.args.class) c.args.asset (pos c.args.cents)) c.from_residual.result why c.from_residual.ensures.1
-          (refused_in xs c.deref.result.now c.deref.ensures.value (λ ys. entry_grounds (state ys b.pools b.closes) (under c.args.class) c.args.asset (pos c.args.cents)) why c.in_err-spot.ensures.cases);
-    }
-
-pub charging-requires : goal.charging-requires
-charging-requires g c =
-    let b = c.args.self.now in
-    let xs = vec_items b.accounts in
-    let found = found_in xs c.deref.result.now c.deref.ensures.value c.args.asset c.in_ok-spot.spot c.in_ok-spot.ensures.value in
-    let taken = taken_in xs c.deref.result.now c.deref.ensures.value (λ ys. entry_grounds (state ys b.pools b.closes) (under c.args.class) c.args.asset (pos c.args.cents)) c.in_ok-spot.ensures.cases in
-    let room = charge_room (view b) c.args.asset c.args.class c.args.cents taken in
-    omega (arith, room, spot_within (charge c.args.class) xs c.args.asset c.in_ok-spot.spot found)
+    let room : charged c.args.class xs + of c.args.class b.pools + c.args.cents ≤ most_cents = search rules in
+    omega (arith, spot_within (charge c.args.class) xs c.args.asset c.in_ok-spot.spot c.in_ok-spot.ensures.value)
 
 pub put-requires : goal.put-requires
 put-requires g c =
     let b = c.args.self.now in
     let xs = vec_items b.accounts in
     let spot = c.in_ok-spot.spot in
-    let found = found_in xs c.deref.result.now c.deref.ensures.value c.args.asset c.in_ok-spot.spot c.in_ok-spot.ensures.value in
-    let taken = taken_in xs c.deref.result.now c.deref.ensures.value (λ ys. entry_grounds (state ys b.pools b.closes) (under c.args.class) c.args.asset (pos c.args.cents)) c.in_ok-spot.ensures.cases in
-    let room = charge_room (view b) c.args.asset c.args.class c.args.cents taken in
-    (search rules, (found.within, kept_put g.row.N b.closes b.pools b.pools xs spot.place c.charging.result (on_ledger (charging c.args.class c.args.cents) spot.account) c.charging.ensures.value refl (kept_charging g.row.N b.closes b.pools xs c.args.asset c.args.cents c.args.class spot (kept_by b) found room)))
-
-pub returns : goal.returns
-returns g c =
-    let b = c.args.self.now in
-    let xs = vec_items b.accounts in
-    let found = found_in xs c.deref.result.now c.deref.ensures.value c.args.asset c.in_ok-spot.spot c.in_ok-spot.ensures.value in
-    record {
-      step = (
-        taken_in xs c.deref.result.now c.deref.ensures.value (λ ys. entry_grounds (state ys b.pools b.closes) (under c.args.class) c.args.asset (pos c.args.cents)) c.in_ok-spot.ensures.cases,
-        changed_at (view b) (view c.put.new.self) c.args.asset (on_ledger (charging c.args.class c.args.cents)) c.in_ok-spot.spot c.charging.result c.put.ensures.after found c.charging.ensures.value,
-      );
-    }
+    let found = c.in_ok-spot.ensures.value in
+    let room : charged c.args.class xs + of c.args.class b.pools + c.args.cents ≤ most_cents = search rules in (
+      search rules,
+      (
+        found.within,
+        subst (λ pair. Kept g.row.N b.closes b.pools (set xs spot.place (on_ledger (λ l. ledger_of l.general l.entries l.claims pair) spot.account)))
+            (sym c.more-account.ensures.value)
+            (kept_charging g.row.N b.closes b.pools xs c.args.asset c.args.cents c.args.class spot (kept_by b) found room),
+      ),
+    )

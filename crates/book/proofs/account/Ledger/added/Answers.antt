@@ -1,0 +1,11 @@
+use Rattle.std.proofs.Common.{◌+ℤ◌, arith, w64, SFits, rules}
+use Rattle.std.proofs.lemmas.Int.{ints, to_z-of_z}
+use Rattle.book.proofs.account.Ledger.added.Goals as goal
+
+pub returns : goal.returns
+returns c =
+    let general : SFits w64 c.args.self.now.general = search rules in
+    let entries : SFits w64 c.args.self.now.entries = search rules in
+    let cents : SFits w64 c.args.cents = search rules in
+    let sum : SFits w64 (c.args.self.now.entries +ℤ c.args.cents) = search rules in
+    record { cases = (search rules, simp to_z-of_z) }

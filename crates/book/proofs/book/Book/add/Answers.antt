@@ -1,0 +1,29 @@
+use Rattle.std.proofs.Common.{◌≡◌, false, set, ◌+ℤ◌, vec_items, sym, ap, ◌∙◌, subst, rules}
+use Rattle.book.specs.Calls.{on_ledger}
+use Rattle.book.specs.Entries.{adding}
+use Rattle.book.specs.Kept.{Kept}
+use Rattle.book.specs.Limits.{entries_most, off_way}
+use Rattle.book.proofs.Sound.{kept_adding, kept_by}
+use Rattle.book.proofs.Ways.{not_off}
+use Rattle.book.proofs.book.Book.add.Goals as goal
+
+pub put-requires : goal.put-requires
+put-requires g c =
+    let b = c.args.self.now in
+    let xs = vec_items b.accounts in
+    let spot = c.args.spot in
+    let found = c.requires.0 in
+    let ledger : c.in-Some.ledger ≡ adding c.args.cents spot.account.ledger = search rules in
+    let within : off_way entries_most (spot.account.ledger.entries +ℤ c.args.cents) ≡ false = search rules in (
+      search rules,
+      (
+        found.within,
+        subst (λ l. Kept g.row.N b.closes b.pools (set xs spot.place (on_ledger (λ _. l) spot.account)))
+            (sym ledger)
+            (kept_adding g.row.N b.closes b.pools xs c.args.asset c.args.cents spot (kept_by b) found
+            (not_off entries_most (spot.account.ledger.entries +ℤ c.args.cents) within)),
+      ),
+    )
+
+pub returns : goal.returns
+returns g c = record { cases = (search rules, search rules) }
