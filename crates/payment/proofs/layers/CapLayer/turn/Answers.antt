@@ -20,9 +20,11 @@ returns-then-award-ge0 c =
     let s = view c.args.standing.now in
     let award : to_z w64 (of_z w64 c.award.result) ≡ s.award = search rules in
     let below : to_z w64 (of_z w64 c.args.below) ≡ c.args.below = search rules in
-    let most : to_z w64 (of_z w64 (pos 2 *ℤ to_z w64 (of_z w64 c.cap_base.result))) ≡ most_paid s = omega (arith, ints) in
+    let twice = to_z w64 (of_z w64 (pos 2 *ℤ to_z w64 (of_z w64 c.cap_base.result))) in
+    let most : twice ≡ most_paid s = omega (arith, ints) in
+    let lesser : int_min (to_z w64 (of_z w64 c.args.below)) twice ≡ int_min c.args.below (most_paid s) = cc in
     let paid : to_z w64 (of_z w64 c.min.result) ≡ c.min.result = search rules in
-    record { value = paid ∙ rw (below, most) at c.min.ensures.value ∙ sym (capped_turn s c.args.below (rw award at c.if-award-ge0.true)) }
+    record { value = paid ∙ c.min.ensures.value ∙ lesser ∙ sym (capped_turn s c.args.below (rw award at c.if-award-ge0.true)) }
 
 pub returns-else-award-ge0 : goal.returns-else-award-ge0
 returns-else-award-ge0 c =
