@@ -16,7 +16,7 @@ def build_plain():
 
 
 def add_to(parser):
-    parser.add_argument("first", nargs="?", default=str(TOP / "target" / "bin" / "settle"))
+    parser.add_argument("first", nargs="?", default=str(TOP / "crates" / "settle" / "out" / "settle"))
     parser.add_argument("second", nargs="?")
 
 
