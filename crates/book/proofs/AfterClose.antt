@@ -1,21 +1,20 @@
 -- What every book keeps over a close. Assumes nothing.
-use Rattle.std.proofs.Common.{◌≡◌, ℕ, ◌+◌, ◌*◌, ◌<◌, ◌≤◌, Bool, true, false, cond, List, [], ◌∷◌, map, length, get_or, drop, ℤ, pos, ◌-ℤ◌, ◌≤ℤ◌, sum_by, sym, refl, ap, ◌∙◌, subst, ⊎_elim, arith}
+use Rattle.std.proofs.Common.{◌≡◌, ℕ, ◌+◌, ◌*◌, ◌<◌, ◌≤◌, List, [], ◌∷◌, map, length, get_or, drop, ℤ, pos, sum_by, sym, refl, ap, ◌∙◌, subst, ⊎_elim, arith}
 use lib.Signed.{lt_z}
 use Rattle.std.proofs.lemmas.List.{get_or-map, get_or_past, length-map}
 use Rattle.std.proofs.lemmas.Int.{ints}
 use Rattle.std.proofs.lemmas.List.Sums.{get_or-le-sum_by, sum_by-cons}
 use Rattle.std.proofs.lemmas.Bool.{cases_lt, cond_both}
-use Rattle.payment.specs.Rule.{Between, Limit, Owed}
+use Rattle.payment.specs.Rule.{Limit, Owed}
 use Rattle.payment.specs.Stand.{InRange, Stand, award_most, commitment_most}
-use Rattle.sharing.specs.Rule.{most_cents}
-use Rattle.book.specs.Account.{EitherWay, RangedLedger, RangedName, RangedTerms, award_in_force, commitment_in_force, opened, standing}
-use Rattle.book.specs.Accounts.{Differ, Each, at, charge, charged, claim, claimed}
-use Rattle.book.specs.Class.{both, by_class, none, of}
+use Rattle.book.specs.Account.{EitherWay, RangedLedger, RangedName, RangedTerms, award_in_force, opened, standing}
+use Rattle.book.specs.Accounts.{Each, at, charge, claim}
+use Rattle.book.specs.Class.{by_class, none, of}
 use Rattle.book.specs.Closable.{Closable, due_at}
 use Rattle.book.specs.Close.{Due, account_after, all_dues, claims, closed_state, due, dues, pooled, shares, taken, total}
 use Rattle.book.specs.Entries.{settled}
 use Rattle.book.specs.Kept.{Kept}
-use Rattle.book.specs.Limits.{closes_most, general_most}
+use Rattle.book.specs.Limits.{closes_most}
 use Rattle.book.specs.State.{State, year}
 use Rattle.book.specs.declared.account.Account.{Account}
 use Rattle.book.specs.declared.account.Ledger.{Ledger}

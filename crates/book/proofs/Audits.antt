@@ -1,17 +1,14 @@
 -- What a history adds up to, for one asset. Assumes nothing.
-use Rattle.std.proofs.Common.{◌≡◌, ℕ, ◌+◌, ◌/◌, ◌<◌, ◌≤◌, Bool, true, false, cond, ◌&&◌, eqb, List, [], ◌∷◌, ℤ, pos, negsuc, ◌+ℤ◌, ◌-ℤ◌, nat_abs, sym, refl, ap, ◌∙◌, subst, ⊎_elim, arith}
+use Rattle.std.proofs.Common.{◌≡◌, ℕ, ◌+◌, ◌<◌, ◌≤◌, Bool, true, false, cond, ◌&&◌, eqb, List, [], ◌∷◌, ℤ, pos, negsuc, ◌+ℤ◌, ◌-ℤ◌, nat_abs, sym, refl, ap, ◌∙◌, ⊎_elim, arith}
 use Rattle.std.proofs.lemmas.Int.{ints}
 use Rattle.std.proofs.lemmas.Bool.{cases_Bool, cases_lt, eqb-false, ne_eqb, true≢false}
 use Rattle.book.specs.Account.{award_in_force, balance}
-use Rattle.book.specs.Calls.{Call, Event, Kind, closing, entered, marked, opening, over, payin, readying, refused, renewal, resolution, under, uplift}
+use Rattle.book.specs.Calls.{Kind, closing, entered, marked, opening, over, payin, readying, refused, renewal, resolution, under, uplift}
 use Rattle.book.specs.Class.{of}
-use Rattle.book.specs.Close.{closed_ledger, closed_terms}
 use Rattle.book.specs.Entries.{credited, renewed}
-use Rattle.book.specs.History.{History, awards, closes, invoices, is_over, is_payin, is_resolution, is_under, is_uplift, its_row, ledger_of, ledger_with, overs, payins, payments, resolutions, shares, term_award, terms_of, unders, uplifts, year_of}
+use Rattle.book.specs.History.{History, awards, invoices, is_over, is_payin, is_resolution, is_under, is_uplift, its_row, ledger_of, ledger_with, overs, payins, payments, resolutions, term_award, terms_of, unders, uplifts, year_of}
 use Rattle.book.specs.Law.{paid_in}
 use Rattle.book.specs.Limits.{off_sum}
-use Rattle.book.specs.declared.account.Ledger.{Ledger}
-use Rattle.book.specs.declared.account.Terms.{Terms}
 use Rattle.book.specs.declared.class.ByClass.{ByClass}
 use Rattle.book.specs.declared.class.Class.{Class}
 use Rattle.book.specs.declared.class.Class.TheVariants.{Availability, Delivery}

@@ -1,19 +1,17 @@
 -- What a close does to the sums of a class. Assumes nothing.
-use Rattle.std.proofs.Common.{◌≡◌, ℕ, zero, suc, ◌+◌, ◌-◌, ◌<◌, ◌≤◌, min, Bool, true, false, cond, eqb, List, [], ◌∷◌, map, length, get_or, drop, ℤ, sum_by, sum, sym, refl, ap, ◌∙◌, subst, le_of_suc-le-suc, arith}
-use Rattle.std.proofs.lemmas.List.{length-map}
-use Rattle.std.proofs.lemmas.List.Sums.{sum-map, sum_by-cons}
+use Rattle.std.proofs.Common.{◌≡◌, ℕ, suc, ◌+◌, ◌≤◌, true, false, cond, eqb, List, [], ◌∷◌, map, length, get_or, drop, ℤ, sum_by, sum, sym, refl, ap, ◌∙◌, arith}
+use Rattle.std.proofs.lemmas.List.Sums.{sum_by-cons}
 use Rattle.payment.specs.Stand.{Stand}
 use Rattle.book.specs.Account.{award_in_force}
-use Rattle.book.specs.Accounts.{account, charge, charged, claim, claimed}
+use Rattle.book.specs.Accounts.{account, charge, charged, claim}
 use Rattle.book.specs.Class.{by_class, of}
-use Rattle.book.specs.Close.{account_after, claims, due, dues, row, taken, taken_of}
+use Rattle.book.specs.Close.{account_after, claims, due, dues, row, taken_of}
 use Rattle.book.specs.History.{its_row}
 use Rattle.book.specs.declared.account.Account.{Account}
 use Rattle.book.specs.declared.class.Class.{Class}
 use Rattle.book.specs.declared.class.Class.TheVariants.{Availability, Delivery}
 use Rattle.book.specs.declared.row.Row.{Row}
 use Rattle.book.proofs.AfterClose.{taken_within}
-use Rattle.book.proofs.Closes.{of_le}
 
 abbrev pub share_of : Class → Row → ℕ
 share_of class r = of class r.share

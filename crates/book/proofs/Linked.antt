@@ -1,12 +1,12 @@
 -- What a history tells of the state that it led to. Assumes nothing.
-use Rattle.std.proofs.Common.{◌≡◌, ℕ, zero, suc, ◌+◌, ◌/◌, ◌<◌, ◌≤◌, Bool, true, false, cond, not, ◌||◌, eqb, ltb, List, [], ◌∷◌, ◌++◌, map, length, get_or, ℤ, pos, nat_abs, Some, None, Option, sym, refl, ap, ◌∙◌, subst, ⊎_elim, arith}
+use Rattle.std.proofs.Common.{◌≡◌, ℕ, zero, suc, ◌+◌, ◌/◌, ◌≤◌, Bool, true, false, cond, ◌||◌, eqb, ltb, List, [], ◌∷◌, ◌++◌, map, length, get_or, ℤ, nat_abs, Some, None, sym, refl, ap, ◌∙◌, subst, arith}
 use Rattle.std.proofs.lemmas.List.{get_or-map, length-map, map_push}
 use Rattle.std.proofs.lemmas.Int.{ints}
-use Rattle.std.proofs.lemmas.Bool.{cases_Bool, leb-true, ltb-false, not-false, or_parts}
+use Rattle.std.proofs.lemmas.Bool.{ltb-false, not-false, or_parts}
 use Rattle.payment.specs.Stand.{Stand, award_most, commitment_most}
 use Rattle.book.specs.Account.{RangedTerms, award_in_force, opened}
 use Rattle.book.specs.Accounts.{Differ, account, at, change, listed}
-use Rattle.book.specs.Calls.{Call, Event, Kind, Step, after_entry, closing, entered, entry, grounds, list, marked, on_ledger, on_terms, opening, over, paid, payin, ready, readying, refused, renewal, resolution, term, under, unlisted, uplift, verdict}
+use Rattle.book.specs.Calls.{Event, Kind, Step, after_entry, closing, entered, entry, grounds, list, marked, on_ledger, on_terms, opening, over, paid, payin, ready, readying, refused, renewal, resolution, term, under, uplift, verdict}
 use Rattle.book.specs.Class.{plus}
 use Rattle.book.specs.Close.{account_after, closed_ledger, closed_terms, dues, shares}
 use Rattle.book.specs.Entries.{credited, renewed, settled}
@@ -19,7 +19,6 @@ use Rattle.book.specs.declared.account.Ledger.{Ledger}
 use Rattle.book.specs.declared.account.Terms.{Terms}
 use Rattle.book.specs.declared.class.ByClass.{ByClass}
 use Rattle.book.specs.declared.class.Class.TheVariants.{Availability, Delivery}
-use Rattle.book.proofs.Closes.{length-dues}
 use Rattle.book.proofs.Lookups.{account_change, by_row, cond_same, ledger_closed, terms_closed}
 use Rattle.book.proofs.Sound.{differ_push}
 use Rattle.book.proofs.Ways.{not_off, renewed_ranged}
@@ -119,13 +118,13 @@ linked_change : (h : History) (e : Event) (s : State) (b : ℕ) (f : Account →
     → ((a : ℕ) → ledger_of a (e ∷ h) ≡ cond (eqb b a) (k (ledger_of a h)) (ledger_of a h))
     → ((a : ℕ) → RangedTerms (terms_of a (e ∷ h)))
     → Linked (e ∷ h) (state (change b f s.accounts) pools s.closes)
-linked_change h e s b f g k pools keeps is-g is-k is_listed link time order pooled terms ledger ranged = record {
+linked_change h e s b f g k pools keeps is_g is_k is_listed link time order pooled terms ledger ranged = record {
   time = link.time ∙ sym time;
   order = order_change b f keeps s.accounts ∙ link.order ∙ sym order;
   differ = differ_like s.accounts (change b f s.accounts) (order_change b f keeps s.accounts) link.differ;
   pools = pooled;
-  terms = λ a. terms_change a b f g keeps is-g s.accounts is_listed ∙ ap (λ t. cond (eqb b a) (g t) t) (link.terms a) ∙ sym (terms a);
-  ledger = λ a. ledger_change a b f k keeps is-k s.accounts is_listed ∙ ap (λ l. cond (eqb b a) (k l) l) (link.ledger a) ∙ sym (ledger a);
+  terms = λ a. terms_change a b f g keeps is_g s.accounts is_listed ∙ ap (λ t. cond (eqb b a) (g t) t) (link.terms a) ∙ sym (terms a);
+  ledger = λ a. ledger_change a b f k keeps is_k s.accounts is_listed ∙ ap (λ l. cond (eqb b a) (k l) l) (link.ledger a) ∙ sym (ledger a);
   ranged = ranged;
 }
 

@@ -1,7 +1,7 @@
 -- Finding the account of an asset. Assumes nothing.
 use Rattle.std.proofs.Common.{◌≡◌, ℕ, zero, suc, ◌+◌, ◌<◌, ◌≤◌, true, false, eqb, List, [], ◌∷◌, length, Some, None, Option, refl, ap, ⊎_elim, le_of_suc-le-suc, not-suc-le-zero, arith, below_more, MatchOption}
 use Rattle.std.proofs.lemmas.Bool.{cases_eq, eq-eqb, ne_eqb}
-use Rattle.book.specs.Accounts.{account, at, change, listed}
+use Rattle.book.specs.Accounts.{at, listed}
 use Rattle.book.specs.Find.{Found, earlier}
 use Rattle.book.specs.declared.account.Account.{Account}
 use Rattle.book.specs.declared.spot.Spot.{Spot}

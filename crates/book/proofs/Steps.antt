@@ -1,8 +1,8 @@
 -- Steps of calls that end in a shared act. Assumes nothing.
-use Rattle.std.proofs.Common.{◌≡◌, ℕ, Bool, true, false, cond, ◌||◌, List, [], ◌∷◌, ◌++◌, set, ℤ, Some, None, Ok, Err, Option, Result, sym, refl, ap, ◌∙◌, arith}
+use Rattle.std.proofs.Common.{◌≡◌, ℕ, Bool, true, false, cond, List, [], ◌∷◌, ◌++◌, set, ℤ, Some, None, Ok, Err, Result, sym, refl, ap, ◌∙◌, arith}
 use Rattle.payment.specs.Stand.{Stand}
 use Rattle.book.specs.Accounts.{account, change}
-use Rattle.book.specs.Calls.{Kind, Step, entered, entries_past, entry, grounds, on_ledger, on_terms, paid, resolution, uplift}
+use Rattle.book.specs.Calls.{Step, entered, entries_past, entry, grounds, on_ledger, on_terms, paid, resolution, uplift}
 use Rattle.book.specs.Class.{plus}
 use Rattle.book.specs.Entries.{credited, settled}
 use Rattle.book.specs.Find.{Found}

@@ -1,5 +1,5 @@
 -- The law over histories, step by step. Assumes nothing.
-use Rattle.std.proofs.Common.{◌≡◌, ℕ, ◌+◌, ◌-◌, ◌<◌, ◌≤◌, min, Bool, true, false, cond, not, ◌&&◌, ◌||◌, eqb, List, [], ◌∷◌, ◌++◌, map, length, get_or, ℤ, pos, ◌+ℤ◌, ◌-ℤ◌, nat_abs, ◌≤ℤ◌, None, sum_by, sum, sym, refl, ap, ◌∙◌, subst, arith}
+use Rattle.std.proofs.Common.{◌≡◌, ℕ, ◌+◌, ◌-◌, ◌<◌, ◌≤◌, min, Bool, true, false, cond, ◌&&◌, ◌||◌, eqb, List, [], ◌∷◌, ◌++◌, map, length, get_or, ℤ, pos, ◌+ℤ◌, nat_abs, ◌≤ℤ◌, None, sum_by, sum, sym, refl, ap, ◌∙◌, subst, arith}
 use Rattle.std.proofs.lemmas.List.{ext_get_or, get_or-map, length-map}
 use Rattle.std.proofs.lemmas.Int.{ints}
 use Rattle.std.proofs.lemmas.List.Sums.{sum-map, sum_by_push}
@@ -7,13 +7,13 @@ use Rattle.std.proofs.lemmas.Bool.{not-false, or_parts, true≢false}
 use Rattle.payment.specs.Rule.{AllKept, Between, Limit, Owed}
 use Rattle.payment.specs.Stand.{InRange, Stand}
 use Rattle.book.specs.Account.{award_in_force, balance, opened, standing}
-use Rattle.book.specs.Accounts.{account, at, change, charge, charged, claim, claimed, listed}
-use Rattle.book.specs.Calls.{Call, Event, Kind, Step, after_entry, closing, entered, entry, grounds, marked, on_ledger, on_terms, opening, over, paid, payin, ready, readying, refused, renewal, resolution, term, under, uplift, verdict}
-use Rattle.book.specs.Class.{none, of, plus}
-use Rattle.book.specs.Close.{account_after, all_dues, claims, closed_ledger, closed_state, due, dues, pooled, residues as residues_at, row, rows, shares as shares_at, taken, taken_of, total_of}
-use Rattle.book.specs.Entries.{credited, renewed, settled}
-use Rattle.book.specs.History.{History, all_shares, all_unders, among, assets, closes, is_over, is_resolution, is_under, is_uplift, its_row, ledger_of, ledger_with, overs, payments, pools_of, residues, shares, term_award, terms_of, year_of}
-use Rattle.book.specs.Law.{Accounted, Answered, Balanced, EveryClose, Run, Unwasted, Whole, Worked, begun, then}
+use Rattle.book.specs.Accounts.{account, at, charge, charged, claim, claimed, listed}
+use Rattle.book.specs.Calls.{Event, Kind, Step, after_entry, closing, entered, entry, grounds, marked, on_ledger, on_terms, opening, over, paid, payin, ready, readying, refused, renewal, resolution, term, under, uplift, verdict}
+use Rattle.book.specs.Class.{none, of}
+use Rattle.book.specs.Close.{claims, closed_ledger, closed_state, due, pooled, residues as residues_at, row, rows, shares as shares_at, taken, taken_of, total_of}
+use Rattle.book.specs.Entries.{credited, renewed}
+use Rattle.book.specs.History.{History, all_shares, all_unders, among, assets, is_over, is_resolution, is_uplift, its_row, ledger_of, ledger_with, overs, payments, pools_of, residues, shares, term_award, terms_of, year_of}
+use Rattle.book.specs.Law.{Accounted, Answered, EveryClose, Run, Unwasted, Whole, Worked, begun, then}
 use Rattle.book.specs.Limits.{asset_most, entry_most, off, off_sum}
 use Rattle.book.specs.State.{State, empty, state, year}
 use Rattle.book.specs.declared.account.Account.{Account}
@@ -24,7 +24,6 @@ use Rattle.book.specs.declared.row.Row.{Row}
 use Rattle.book.proofs.AfterClose.{shares_within, standing_within}
 use Rattle.book.proofs.Audits.{Even, award_link, even_closing, even_entry, even_renewal, not_below}
 use Rattle.book.proofs.Charges.{all_met, charged_closed, list_of, rows_order, same_if_summed, share_of, shares_listed, taken_listed}
-use Rattle.book.proofs.Closes.{length-dues}
 use Rattle.book.proofs.Linked.{Linked, entry_listed, linked_begun, linked_step, none_hold, same_year}
 use Rattle.book.proofs.Places.{found}
 use Rattle.book.proofs.Lookups.{row_closed, row_for, row_within, sum_change}

@@ -10,7 +10,7 @@
 --   claimed k xs     what all claims of the class come to
 --   charged k xs     what all charges owed in the class come to
 -- Assumes nothing.
-use Rattle.std.specs.Prelude.{◌≡◌, ℕ, ◌<◌, Bool, false, cond, ◌||◌, List, [], ◌∷◌, length, sum_by, ◌==◌, ◌≢◌, slice_index_or}
+use Rattle.std.specs.Prelude.{ℕ, ◌<◌, Bool, false, cond, ◌||◌, List, [], ◌∷◌, length, sum_by, ◌==◌, ◌≢◌, slice_index_or}
 use Rattle.book.specs.Account.{opened}
 use Rattle.book.specs.Class.{of}
 use Rattle.book.specs.declared.account.Account.{Account}

@@ -5,8 +5,7 @@
 --   grounds   on which a call is refused, with their numbers, in the order in which they are tested
 --   Step      from state to state by an event
 -- Assumes nothing.
-use Rattle.std.specs.Prelude.{◌≡◌, ℕ, ◌+◌, ◌≤◌, Bool, false, not, ◌||◌, List, [], ◌∷◌, ◌++◌, length, ℤ, pos, ◌+ℤ◌, neg_ℤ, Some, None, Option, ◌==◌, int_lt, nat_le, nat_lt, unsigned_abs}
-use Rattle.std.specs.Int.Signed.{le_z}
+use Rattle.std.specs.Prelude.{◌≡◌, ℕ, ◌+◌, Bool, false, not, ◌||◌, List, [], ◌∷◌, ◌++◌, length, ℤ, ◌+ℤ◌, Some, None, Option, ◌==◌, int_lt, nat_le, nat_lt, unsigned_abs}
 use Rattle.payment.specs.Mark.{mark_number}
 use Rattle.payment.specs.Stand.{Stand, award_most, commitment_most}
 use Rattle.payment.specs.declared.mark.Mark.TheVariants.{ReadyNext}

@@ -16,7 +16,7 @@ use Rattle.payment.specs.declared.mark.Mark.{Mark}
 use Rattle.payment.specs.declared.mark.Mark.TheVariants.{NotReady, Ready, ReadyNext}
 use Rattle.book.specs.Account.{account_of, award_in_force, balance, ledger_of, standing, terms_of}
 use Rattle.book.specs.Accounts.{claim}
-use Rattle.book.specs.Class.{both, by_class, minus, none, of, plus}
+use Rattle.book.specs.Class.{both, by_class, minus, none, of}
 use Rattle.book.specs.Entries.{settled}
 use Rattle.book.specs.State.{State, state, year}
 use Rattle.book.specs.declared.account.Account.{Account}

@@ -5,10 +5,10 @@
 --   renewed         the terms after a term is given
 --   claiming, charging, adding   a ledger with an over, an under, an uplift or a resolution
 -- Assumes nothing.
-use Rattle.std.specs.Prelude.{ℕ, ◌+◌, ◌-◌, ◌*◌, ◌/◌, min, Bool, cond, ◌&&◌, ℤ, pos, ◌+ℤ◌, ◌-ℤ◌, int_lt, nat_lt, unsigned_abs}
+use Rattle.std.specs.Prelude.{ℕ, ◌-◌, ◌*◌, ◌/◌, min, Bool, cond, ◌&&◌, ℤ, pos, ◌+ℤ◌, ◌-ℤ◌, int_lt, nat_lt, unsigned_abs}
 use Rattle.std.specs.Int.{int_max}
 use Rattle.payment.specs.declared.mark.Mark.TheVariants.{Ready}
-use Rattle.book.specs.Account.{balance, ledger_of, terms_of}
+use Rattle.book.specs.Account.{ledger_of, terms_of}
 use Rattle.book.specs.Class.{both, by_class, minus, more}
 use Rattle.book.specs.declared.account.Ledger.{Ledger}
 use Rattle.book.specs.declared.account.Terms.{Terms}

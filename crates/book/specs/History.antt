@@ -13,7 +13,7 @@
 -- Assumes nothing.
 use Rattle.std.specs.Prelude.{ℕ, ◌+◌, ◌/◌, Bool, true, false, cond, ◌&&◌, ◌||◌, List, [], ◌∷◌, ◌++◌, ℤ, pos, ◌+ℤ◌, sum_by, ◌==◌, unsigned_abs}
 use Rattle.book.specs.Account.{award_in_force, opened}
-use Rattle.book.specs.Calls.{Call, Event, Kind, closing, entered, marked, opening, over, payin, readying, refused, renewal, resolution, under, uplift}
+use Rattle.book.specs.Calls.{Event, Kind, closing, entered, marked, opening, over, payin, readying, refused, renewal, resolution, under, uplift}
 use Rattle.book.specs.Class.{none, of, plus}
 use Rattle.book.specs.Close.{closed_ledger, closed_terms}
 use Rattle.book.specs.Entries.{adding, charging, claiming, credited, renewed, settled}

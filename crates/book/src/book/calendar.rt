@@ -2,7 +2,7 @@
 ghost use Rattle.std.specs.Prelude.{◌≡◌};
 ghost use Rattle.book.specs.Book.{view};
 ghost use Rattle.book.specs.Calls.{wrong_month};
-ghost use Rattle.book.specs.State.{month as month-of, year as year_of};
+ghost use Rattle.book.specs.State.{month as month_of, year as year_of};
 
 use crate::book::Book;
 use crate::class::Class;
@@ -17,7 +17,7 @@ impl<R: Seats<N>, P: PaymentRule, const N: usize> Book<R, P, N> {
     }
 
     pub(crate) fn month(&self) -> u64
-        ensures value { result ≡ month-of (view self.now) }
+        ensures value { result ≡ month_of (view self.now) }
     {
         self.closes % 12 + 1
     }

@@ -1,4 +1,4 @@
-use Rattle.std.proofs.Common.{◌≡◌, ℕ, ◌<◌, get_or, ap, ◌∙◌, arith, rules}
+use Rattle.std.proofs.Common.{◌≡◌, get_or, ap, ◌∙◌, arith}
 use Rattle.book.specs.Account.{opened}
 use Rattle.book.specs.Accounts.{at}
 use Rattle.book.specs.Class.{by_class}

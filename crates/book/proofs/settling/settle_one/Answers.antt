@@ -1,8 +1,6 @@
-use Rattle.std.proofs.Common.{◌≡◌, sym, subst, w64, SFits, rules}
+use Rattle.std.proofs.Common.{◌≡◌, subst, w64, SFits, rules}
 use Rattle.std.proofs.lemmas.Int.{to_z-of_z}
 use Rattle.payment.specs.Rule.{Between}
-use Rattle.payment.specs.Stand.{award_most}
-use Rattle.book.specs.Account.{EitherWay}
 use Rattle.book.specs.Close.{total_of}
 use Rattle.book.proofs.settling.settle_one.Goals as goal
 

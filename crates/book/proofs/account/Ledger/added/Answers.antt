@@ -1,5 +1,5 @@
-use Rattle.std.proofs.Common.{◌+ℤ◌, arith, w64, SFits, rules}
-use Rattle.std.proofs.lemmas.Int.{ints, to_z-of_z}
+use Rattle.std.proofs.Common.{◌+ℤ◌, w64, SFits, rules}
+use Rattle.std.proofs.lemmas.Int.{to_z-of_z}
 use Rattle.book.proofs.account.Ledger.added.Goals as goal
 
 pub returns : goal.returns

@@ -1,10 +1,8 @@
-use Rattle.std.proofs.Common.{◌≡◌, ◌+◌, ◌≤◌, pos, ◌-ℤ◌, sym, ap, ◌∙◌, subst, arith, w64, SFits, to_z, of_z, rules}
-use Rattle.std.proofs.lemmas.Int.{ints, to_z-of_z}
-use Rattle.payment.specs.Rule.{Between}
-use Rattle.book.specs.Account.{EitherWay, ledger_of}
+use Rattle.std.proofs.Common.{◌≡◌, pos, ◌-ℤ◌, sym, ap, subst, arith, w64, to_z, of_z, rules}
+use Rattle.std.proofs.lemmas.Int.{ints}
+use Rattle.book.specs.Account.{EitherWay}
 use Rattle.book.specs.Class.{minus}
 use Rattle.book.specs.Close.{total_of}
-use Rattle.book.specs.Small.{Small}
 use Rattle.book.proofs.Ways.{left_within, total_within}
 use Rattle.book.proofs.account.Ledger.closed.Goals as goal
 

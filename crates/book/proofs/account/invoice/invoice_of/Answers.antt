@@ -1,6 +1,5 @@
-use Rattle.std.proofs.Common.{◌≡◌, ◌*◌, ◌/◌, ◌≤◌, min, true, ◌&&◌, pos, ◌-ℤ◌, nat_abs, sym, ap, ◌∙◌, subst, arith, rules}
+use Rattle.std.proofs.Common.{◌≡◌, ◌*◌, ◌/◌, min, true, ◌&&◌, pos, ◌-ℤ◌, nat_abs, sym, ◌∙◌, arith, rules}
 use lib.Signed.{lt_z}
-use Rattle.std.proofs.lemmas.Int.{ints}
 use Rattle.std.proofs.lemmas.Bool.{and_from, cond-true}
 use Rattle.book.proofs.Ways.{above_owed, part_within}
 use Rattle.book.proofs.account.invoice.invoice_of.Goals as goal

@@ -1,4 +1,4 @@
-use Rattle.std.proofs.Common.{◌≡◌, false, set, ◌+ℤ◌, vec_items, sym, ap, ◌∙◌, subst, rules}
+use Rattle.std.proofs.Common.{◌≡◌, false, set, ◌+ℤ◌, vec_items, sym, subst, rules}
 use Rattle.book.specs.Calls.{on_ledger}
 use Rattle.book.specs.Entries.{adding}
 use Rattle.book.specs.Kept.{Kept}

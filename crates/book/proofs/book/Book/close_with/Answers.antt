@@ -1,16 +1,14 @@
 use Rattle.std.proofs.Common.{◌≡◌, ◌+◌, ◌++◌, map, length, drop, vec_items, sym, ap, ◌∙◌, subst, arith, rules}
 use Rattle.std.specs.Vec.{with_items}
-use Rattle.std.proofs.lemmas.List.{length-map, with_items_is}
+use Rattle.std.proofs.lemmas.List.{with_items_is}
 use Rattle.book.specs.Book.{view}
 use Rattle.book.specs.Class.{by_class, none}
-use Rattle.book.specs.Close.{account_after, all_dues, closed_state, dues, residue, row, shares}
+use Rattle.book.specs.Close.{account_after, all_dues, closed_state, residue, row}
 use Rattle.book.specs.Kept.{Kept}
 use Rattle.book.specs.State.{state, year}
-use Rattle.book.specs.declared.class.Class.TheVariants.{Availability, Delivery}
+use Rattle.book.specs.declared.class.Class.TheVariants.{Delivery}
 use Rattle.book.proofs.AfterClose.{all_closable, kept_after, same_work}
-use Rattle.book.proofs.Closes.{length-dues}
 use Rattle.book.proofs.Sound.{kept_by}
-use Rattle.book.proofs.book.Book.close_with.Given as given
 use Rattle.book.proofs.book.Book.close_with.Goals as goal
 
 pub settle_all-requires : goal.settle_all-requires

@@ -1,6 +1,4 @@
-use Rattle.std.proofs.Common.{◌≡◌, ◌<◌, ◌≤◌, false, [], ◌∷◌, ◌++◌, length, vec_items, vec_capacity, sym, ap, ◌∙◌, subst, rules}
-use Rattle.book.specs.Account.{RangedName, opened}
-use Rattle.book.specs.Accounts.{listed}
+use Rattle.std.proofs.Common.{[], ◌∷◌, ◌++◌, vec_items, sym, ap, ◌∙◌, subst, rules}
 use Rattle.book.specs.Kept.{Kept}
 use Rattle.book.proofs.Sound.{kept_by, kept_push}
 use Rattle.book.proofs.book.Book.list.Given as given

@@ -1,6 +1,6 @@
 use Rattle.std.proofs.Common.{◌≡◌, ◌≤◌, false, neg_ℤ, ◌≤ℤ◌, sym, ap, ◌∙◌, subst, arith, w64, SFits, rules}
 use lib.Signed.{lt_z}
-use Rattle.std.proofs.lemmas.Int.{ints, to_z-of_z}
+use Rattle.std.proofs.lemmas.Int.{to_z-of_z}
 use Rattle.payment.specs.Stand.{award_most, commitment_most}
 use Rattle.book.specs.Account.{RangedTerms, balance}
 use Rattle.book.specs.Book.{view}
