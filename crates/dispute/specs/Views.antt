@@ -8,19 +8,20 @@
 use Rattle.std.specs.Prelude.{◌≡◌, Ok, Err, Result}
 use Rattle.dispute.specs.Paper.{Answer, Paper, filed, referred, refused, resolution, served}
 use Rattle.dispute.specs.Refusal.{number}
-use Rattle.dispute.specs.declared.paper.Filed.{Filed}
-use Rattle.dispute.specs.declared.paper.Referred.{Referred}
+use Rattle.dispute.specs.declared.paper.Unserved.{Unserved}
+use Rattle.dispute.specs.declared.paper.Offer.{Offer}
+use Rattle.dispute.specs.declared.paper.Paper.{Paper as PaperAt}
+use Rattle.dispute.specs.declared.paper.Rejected.{Rejected}
 use Rattle.dispute.specs.declared.paper.Resolution.{Resolution}
-use Rattle.dispute.specs.declared.paper.Served.{Served}
 use Rattle.dispute.specs.declared.refusal.Refusal.{Refusal}
 
-abbrev pub filed_paper : Filed → Paper
+abbrev pub filed_paper : PaperAt Unserved → Paper
 filed_paper p = filed p.asset p.period
 
-abbrev pub served_paper : Served → Paper
-served_paper p = served p.asset p.period p.cents p.day
+abbrev pub served_paper : PaperAt Offer → Paper
+served_paper p = served p.asset p.period p.stage.cents p.stage.day
 
-abbrev pub referred_paper : Referred → Paper
+abbrev pub referred_paper : PaperAt Rejected → Paper
 referred_paper p = referred p.asset p.period
 
 abbrev pub yields : Resolution → Answer

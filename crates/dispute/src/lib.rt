@@ -10,7 +10,7 @@ pub use figures::worked_figures;
 pub use limits::{
     ASSET_MOST, CLOSES_MOST, DAY_MOST, FILING_CLOSES, PERIOD_MOST, REPLY_DAYS, SUM_MOST,
 };
-pub use paper::{Filed, Note, Referred, Resolution, Served};
+pub use paper::{Filed, Note, Offer, Paper, Referred, Rejected, Resolution, Served, Unserved};
 pub use refusal::Refusal;
 
 #[cfg(test)]
@@ -45,25 +45,53 @@ mod tests {
         assert_eq!(rt; [assets, periods, closes], [[4; 2]; 3]);
     }
 
-    // Accepts a paper on the day that it was served, which none refuses.
-    fn settled(served: Served) {
-        let day = served.day();
-        let _ = served.accept(day).unwrap().note();
+    // Ends what a call gave or handed back.
+    trait End {
+        fn end(self);
     }
 
-    // The number by which an offer is refused, 0 where it is not.
-    fn offering(cents: i64, day: u64) -> u64 {
-        match Filed::file(7, 1, 5).unwrap().offer(cents, day) {
-            Ok(served) => {
-                settled(served);
+    impl End for Filed {
+        fn end(self) {
+            self.withdraw();
+        }
+    }
+
+    // Accepted on the day that it was served, which none refuses.
+    impl End for Served {
+        fn end(self) {
+            let day = self.day();
+            self.accept(day).unwrap().end();
+        }
+    }
+
+    impl End for Referred {
+        fn end(self) {
+            self.withdraw();
+        }
+    }
+
+    impl End for Resolution {
+        fn end(self) {
+            let _ = self.note();
+        }
+    }
+
+    // The number by which a call is refused, 0 where it is not.
+    fn refused_by<A: End, B: End>(answer: Result<A, (B, Refusal)>) -> u64 {
+        match answer {
+            Ok(given) => {
+                given.end();
                 0
             }
-            Err(back) => {
-                let (filed, why) = back;
-                filed.withdraw();
+            Err((back, why)) => {
+                back.end();
                 why.number()
             }
         }
+    }
+
+    fn offering(cents: i64, day: u64) -> u64 {
+        refused_by(Filed::file(7, 1, 5).unwrap().offer(cents, day))
     }
 
     #[test]
@@ -76,36 +104,6 @@ mod tests {
         assert_eq!(rt; [ends, past, sums, days], [[0; 2], [4; 2], [4; 2], [4; 2]]);
     }
 
-    // The number by which a reply is refused, 0 where it yields a resolution.
-    fn resolving(answer: Result<Resolution, (Served, Refusal)>) -> u64 {
-        match answer {
-            Ok(resolution) => {
-                let _ = resolution.note();
-                0
-            }
-            Err(back) => {
-                let (served, why) = back;
-                settled(served);
-                why.number()
-            }
-        }
-    }
-
-    // The number by which a rejection is refused, 0 where it is not.
-    fn referring(answer: Result<Referred, (Served, Refusal)>) -> u64 {
-        match answer {
-            Ok(referred) => {
-                referred.withdraw();
-                0
-            }
-            Err(back) => {
-                let (served, why) = back;
-                settled(served);
-                why.number()
-            }
-        }
-    }
-
     // A paper served on this day, or on the last one that there is.
     fn served(day: u64) -> Served {
         let filed = Filed::file(7, 1, 5).unwrap();
@@ -115,18 +113,18 @@ mod tests {
     #[test]
     fn accepts_and_rejects_for_thirty_days(rt: HostRuntime) {
         let accepted = [
-            resolving(served(100).accept(99)),
-            resolving(served(100).accept(100)),
-            resolving(served(100).accept(130)),
-            resolving(served(100).accept(131)),
-            resolving(served(100).accept(100_001)),
+            refused_by(served(100).accept(99)),
+            refused_by(served(100).accept(100)),
+            refused_by(served(100).accept(130)),
+            refused_by(served(100).accept(131)),
+            refused_by(served(100).accept(100_001)),
         ];
         let rejected = [
-            referring(served(100).reject(99)),
-            referring(served(100).reject(100)),
-            referring(served(100).reject(130)),
-            referring(served(100).reject(131)),
-            referring(served(100).reject(u64::MAX)),
+            refused_by(served(100).reject(99)),
+            refused_by(served(100).reject(100)),
+            refused_by(served(100).reject(130)),
+            refused_by(served(100).reject(131)),
+            refused_by(served(100).reject(u64::MAX)),
         ];
         assert_eq!(rt; [accepted, rejected], [[18, 0, 0, 18, 4]; 2]);
     }
@@ -134,11 +132,11 @@ mod tests {
     #[test]
     fn lapses_later(rt: HostRuntime) {
         let lapsed = [
-            resolving(served(100).lapse(130)),
-            resolving(served(100).lapse(131)),
-            resolving(served(99_969).lapse(100_000)),
-            resolving(served(99_970).lapse(100_000)),
-            resolving(served(99_970).lapse(100_001)),
+            refused_by(served(100).lapse(130)),
+            refused_by(served(100).lapse(131)),
+            refused_by(served(99_969).lapse(100_000)),
+            refused_by(served(99_970).lapse(100_000)),
+            refused_by(served(99_970).lapse(100_001)),
         ];
         assert_eq!(rt; lapsed, [18, 0, 0, 18, 4]);
     }

@@ -26,13 +26,13 @@ pub const REPLY_DAYS: u64 = 30;
 pub(crate) fn is_asset(asset: u64) -> bool
     ensures value { result ≡ is_asset asset }
 {
-    1 <= asset && asset <= ASSET_MOST
+    (1..=ASSET_MOST).contains(&asset)
 }
 
 pub(crate) fn is_period(period: u64) -> bool
     ensures value { result ≡ is_period period }
 {
-    1 <= period && period <= PERIOD_MOST
+    (1..=PERIOD_MOST).contains(&period)
 }
 
 pub(crate) fn is_closes(closes: u64) -> bool

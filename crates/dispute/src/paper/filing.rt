@@ -1,23 +1,26 @@
-// Filing a paper, serving it with an offer, and withdrawing it before one.
+// Filing a paper, and serving it with an offer.
 ghost use Rattle.std.specs.Prelude.{◌≡◌, IfOk};
 ghost use Rattle.dispute.specs.Filing.{FiledStep, file_ground, offer_ground};
 ghost use Rattle.dispute.specs.Life.{Lawful};
-ghost use Rattle.dispute.specs.Paper.{filed, offer, served, taken, withdraw, withdrawn};
+ghost use Rattle.dispute.specs.Paper.{filed, offer, served, taken};
 ghost use Rattle.dispute.specs.Refusal.{refusal, refused_by};
 ghost use Rattle.dispute.specs.Views.{Same, after, answer, filed_paper, served_paper};
 
 use crate::limits::{FILING_CLOSES, is_asset, is_closes, is_day, is_period, is_sum};
-use crate::paper::{Filed, Served};
+use crate::paper::{Filed, Offer, Paper, Served, Unserved};
 use crate::refusal::Refusal;
 
-// Whether this sum can be offered on this day.
-fn can_offer(cents: i64, day: u64) -> Result<(), Refusal>
-    ensures cases { refusal result ≡ offer_ground cents day }
-{
-    if !is_sum(cents) || !is_day(day) {
-        return Err(Refusal::OutOfRange);
+impl Offer {
+    // This sum offered on this day, if it can be.
+    fn new(cents: i64, day: u64) -> Result<Offer, Refusal>
+        ensures cases { refusal result ≡ offer_ground cents day }
+        ensures value { IfOk result (λ given. (given.cents ≡ cents) × (given.day ≡ day)) }
+    {
+        if !is_sum(cents) || !is_day(day) {
+            return Err(Refusal::OutOfRange);
+        }
+        Ok(Offer { cents, day })
     }
-    Ok(())
 }
 
 impl Filed {
@@ -33,7 +36,11 @@ impl Filed {
         if closes < period + FILING_CLOSES {
             return Err(Refusal::TooEarly);
         }
-        Ok(Filed { asset, period })
+        Ok(Paper {
+            asset,
+            period,
+            stage: Unserved,
+        })
     }
 
     // Offers a sum and serves the paper, on this day.
@@ -43,36 +50,9 @@ impl Filed {
         ensures same { Same self result }
         ensures step { FiledStep (filed_paper self) (offer cents day) (answer (λ _. taken) result) (after served_paper filed_paper result) }
     {
-        if let Err(why) = can_offer(cents, day) {
-            return Err((self, why));
+        match Offer::new(cents, day) {
+            Ok(stage) => Ok(self.into_stage(stage)),
+            Err(why) => Err((self, why)),
         }
-        let Filed { asset, period } = self;
-        Ok(Served {
-            asset,
-            period,
-            cents,
-            day,
-        })
-    }
-
-    pub fn withdraw(self)
-        ensures step { FiledStep (filed_paper self) withdraw taken withdrawn }
-    {
-        let Filed {
-            asset: _,
-            period: _,
-        } = self;
-    }
-
-    pub fn asset(&self) -> u64
-        ensures value { result ≡ self.now.asset }
-    {
-        self.asset
-    }
-
-    pub fn period(&self) -> u64
-        ensures value { result ≡ self.now.period }
-    {
-        self.period
     }
 }
