@@ -8,11 +8,11 @@
 use Rattle.std.specs.Prelude.{◌≡◌, Ok, Err, Result}
 use Rattle.dispute.specs.Paper.{Answer, Paper, filed, referred, refused, resolution, served}
 use Rattle.dispute.specs.Refusal.{number}
-use Rattle.dispute.specs.declared.paper.Unserved.{Unserved}
 use Rattle.dispute.specs.declared.paper.Offer.{Offer}
 use Rattle.dispute.specs.declared.paper.Paper.{Paper as PaperAt}
 use Rattle.dispute.specs.declared.paper.Rejected.{Rejected}
 use Rattle.dispute.specs.declared.paper.Resolution.{Resolution}
+use Rattle.dispute.specs.declared.paper.Unserved.{Unserved}
 use Rattle.dispute.specs.declared.refusal.Refusal.{Refusal}
 
 abbrev pub filed_paper : PaperAt Unserved → Paper

@@ -50,5 +50,5 @@ pub(crate) fn is_day(day: u64) -> bool
 pub(crate) fn is_sum(cents: i64) -> bool
     ensures value { result ≡ is_sum cents }
 {
-    cents != 0 && cents.unsigned_abs() <= SUM_MOST
+    (1..=SUM_MOST).contains(&cents.unsigned_abs())
 }

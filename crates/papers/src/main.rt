@@ -2,27 +2,61 @@
 // Each `unwrap` and `unwrap_err` is proved from what the calls promise: which are taken, and which are refused.
 #![tactic(auto)]
 
-use dispute::{Filed, Note, Refusal};
-use std::io;
+use dispute::{Filed, Note, Paper, Refusal, Served};
+use std::{fmt, io};
 
-fn begun(rt: &HostRuntime, asset: u64, period: u64) -> io::Result<()> {
-    println!(rt; "asset {asset}, period {period}")
+// What a paper is for.
+#[derive(Clone, Copy, Debug)]
+struct Subject {
+    asset: u64,
+    period: u64,
 }
 
-fn taken(rt: &HostRuntime, act: &str) -> io::Result<()> {
-    println!(rt; "  {act}")
+impl Subject {
+    fn of<S>(paper: &Paper<S>) -> Subject {
+        Subject {
+            asset: paper.asset(),
+            period: paper.period(),
+        }
+    }
 }
 
-fn refused(rt: &HostRuntime, act: &str, why: Refusal) -> io::Result<()> {
-    println!(rt; "  {act}: refused by {}", why.number())
+// What is printed of a step on a paper's road.
+#[derive(Clone, Copy, Debug)]
+enum Step {
+    Taken(&'static str),
+    Refused(&'static str, Refusal),
+    Served { cents: i64, day: u64 },
+    Noted(Note),
 }
 
-fn served(rt: &HostRuntime, cents: i64, day: u64) -> io::Result<()> {
-    println!(rt; "  {cents} cents offered: served on day {day}")
+impl Step {
+    fn served(paper: &Served) -> Step {
+        Step::Served {
+            cents: paper.cents(),
+            day: paper.day(),
+        }
+    }
 }
 
-fn noted(rt: &HostRuntime, note: Note) -> io::Result<()> {
-    println!(rt; "  noted: asset {}, {} cents", note.asset, note.cents)
+impl fmt::Display for Step {
+    fn fmt<W: fmt::Write>(&self, f: &mut fmt::Formatter<W>) -> fmt::Result {
+        match self {
+            Step::Taken(act) => f.write_str(act),
+            Step::Refused(act, why) => write!(f, "{act}: refused by {}", why.number()),
+            Step::Served { cents, day } => write!(f, "{cents} cents offered: served on day {day}"),
+            Step::Noted(note) => write!(f, "noted: asset {}, {} cents", note.asset, note.cents),
+        }
+    }
+}
+
+// Prints a paper's road. The paper is spent by now, so a failure to print lets none go.
+fn tell(rt: &HostRuntime, subject: Subject, steps: &[Step]) -> io::Result<()> {
+    println!(rt; "asset {}, period {}", subject.asset, subject.period)?;
+    for step in steps {
+        println!(rt; "  {step}")?;
+    }
+    Ok(())
 }
 
 // Filed too early and offered nothing at first, accepted too late and then on the last day.
@@ -32,17 +66,19 @@ fn by_acceptance(rt: &HostRuntime) -> io::Result<()> {
     let (filed, nothing) = filed.offer(0, 100).unwrap_err();
     let paper = filed.offer(50_000, 100).unwrap();
     let (paper, late) = paper.accept(131).unwrap_err();
-    let (asset, period, cents, day) = (paper.asset(), paper.period(), paper.cents(), paper.day());
+    let (subject, served) = (Subject::of(&paper), Step::served(&paper));
     let resolution = paper.accept(130).unwrap();
     let note = resolution.note();
-    begun(rt, asset, period)?;
-    refused(rt, "filed after 4 closes", early)?;
-    taken(rt, "filed after 5 closes")?;
-    refused(rt, "0 cents offered on day 100", nothing)?;
-    served(rt, cents, day)?;
-    refused(rt, "accepted on day 131", late)?;
-    taken(rt, "accepted on day 130")?;
-    noted(rt, note)
+    let steps = [
+        Step::Refused("filed after 4 closes", early),
+        Step::Taken("filed after 5 closes"),
+        Step::Refused("0 cents offered on day 100", nothing),
+        served,
+        Step::Refused("accepted on day 131", late),
+        Step::Taken("accepted on day 130"),
+        Step::Noted(note),
+    ];
+    tell(rt, subject, &steps)
 }
 
 // Nobody replies for thirty days.
@@ -50,65 +86,73 @@ fn by_lapse(rt: &HostRuntime) -> io::Result<()> {
     let filed = Filed::file(8, 2, 6).unwrap();
     let paper = filed.offer(-1_200, 100).unwrap();
     let (paper, early) = paper.lapse(130).unwrap_err();
-    let (asset, period, cents, day) = (paper.asset(), paper.period(), paper.cents(), paper.day());
+    let (subject, served) = (Subject::of(&paper), Step::served(&paper));
     let note = paper.lapse(131).unwrap().note();
-    begun(rt, asset, period)?;
-    taken(rt, "filed after 6 closes")?;
-    served(rt, cents, day)?;
-    refused(rt, "lapsed on day 130", early)?;
-    taken(rt, "lapsed on day 131")?;
-    noted(rt, note)
+    let steps = [
+        Step::Taken("filed after 6 closes"),
+        served,
+        Step::Refused("lapsed on day 130", early),
+        Step::Taken("lapsed on day 131"),
+        Step::Noted(note),
+    ];
+    tell(rt, subject, &steps)
 }
 
 // Rejected, and determined at another sum than the one offered.
 fn by_determination(rt: &HostRuntime) -> io::Result<()> {
     let filed = Filed::file(9, 3, 7).unwrap();
     let paper = filed.offer(700, 100).unwrap();
-    let (cents, day) = (paper.cents(), paper.day());
+    let served = Step::served(&paper);
     let (paper, early) = paper.reject(99).unwrap_err();
     let referred = paper.reject(100).unwrap();
     let (referred, much) = referred.determine(1_000_000_001).unwrap_err();
-    let (asset, period) = (referred.asset(), referred.period());
+    let subject = Subject::of(&referred);
     let note = referred.determine(900).unwrap().note();
-    begun(rt, asset, period)?;
-    taken(rt, "filed after 7 closes")?;
-    served(rt, cents, day)?;
-    refused(rt, "rejected on day 99", early)?;
-    taken(rt, "rejected on day 100: referred")?;
-    refused(rt, "determined at 1000000001 cents", much)?;
-    taken(rt, "determined at 900 cents")?;
-    noted(rt, note)
+    let steps = [
+        Step::Taken("filed after 7 closes"),
+        served,
+        Step::Refused("rejected on day 99", early),
+        Step::Taken("rejected on day 100: referred"),
+        Step::Refused("determined at 1000000001 cents", much),
+        Step::Taken("determined at 900 cents"),
+        Step::Noted(note),
+    ];
+    tell(rt, subject, &steps)
 }
 
 // Withdrawn before an offer.
 fn withdrawn_from_filed(rt: &HostRuntime) -> io::Result<()> {
     let filed = Filed::file(10, 356, 360).unwrap();
     let (filed, never) = filed.offer(700, 100_001).unwrap_err();
-    let (asset, period) = (filed.asset(), filed.period());
+    let subject = Subject::of(&filed);
     filed.withdraw();
-    begun(rt, asset, period)?;
-    taken(rt, "filed after 360 closes")?;
-    refused(rt, "700 cents offered on day 100001", never)?;
-    taken(rt, "withdrawn")
+    let steps = [
+        Step::Taken("filed after 360 closes"),
+        Step::Refused("700 cents offered on day 100001", never),
+        Step::Taken("withdrawn"),
+    ];
+    tell(rt, subject, &steps)
 }
 
 // Served so late that it cannot lapse, rejected on the last day there is, and withdrawn before a determination.
 fn withdrawn_from_referred(rt: &HostRuntime) -> io::Result<()> {
     let filed = Filed::file(11, 4, 8).unwrap();
     let paper = filed.offer(700, 99_970).unwrap();
-    let (cents, day) = (paper.cents(), paper.day());
+    let served = Step::served(&paper);
     let (paper, early) = paper.lapse(100_000).unwrap_err();
     let (paper, never) = paper.lapse(100_001).unwrap_err();
     let referred = paper.reject(100_000).unwrap();
-    let (asset, period) = (referred.asset(), referred.period());
+    let subject = Subject::of(&referred);
     referred.withdraw();
-    begun(rt, asset, period)?;
-    taken(rt, "filed after 8 closes")?;
-    served(rt, cents, day)?;
-    refused(rt, "lapsed on day 100000", early)?;
-    refused(rt, "lapsed on day 100001", never)?;
-    taken(rt, "rejected on day 100000: referred")?;
-    taken(rt, "withdrawn")
+    let steps = [
+        Step::Taken("filed after 8 closes"),
+        served,
+        Step::Refused("lapsed on day 100000", early),
+        Step::Refused("lapsed on day 100001", never),
+        Step::Taken("rejected on day 100000: referred"),
+        Step::Taken("withdrawn"),
+    ];
+    tell(rt, subject, &steps)
 }
 
 fn main(rt: HostRuntime) -> io::Result<()> {

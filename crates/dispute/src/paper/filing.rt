@@ -51,7 +51,7 @@ impl Filed {
         ensures step { FiledStep (filed_paper self) (offer cents day) (answer (λ _. taken) result) (after served_paper filed_paper result) }
     {
         match Offer::new(cents, day) {
-            Ok(stage) => Ok(self.into_stage(stage)),
+            Ok(offer) => Ok(self.into_stage(offer)),
             Err(why) => Err((self, why)),
         }
     }

@@ -6,7 +6,8 @@ ghost use Rattle.dispute.specs.Referral.{ReferredStep, referred_withdrawn};
 
 use crate::paper::{Paper, Rejected, Unserved};
 
-// A stage at which a paper can be withdrawn, since the steps of the stage have a withdrawal.
+// A stage at which a paper can be withdrawn: its papers, and their steps, which have a withdrawal of each. Other crates
+// cannot name this trait, so no stage is added elsewhere.
 pub trait Withdrawable: Copy {
     ghost paper: { ℕ → ℕ → State };
 
