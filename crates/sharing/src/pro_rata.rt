@@ -9,7 +9,7 @@ ghost use Rattle.std.proofs.Common.{rules};
 use crate::refusal::Refusal;
 use crate::rule::{Seats, SharingRule, admitted};
 
-#[derive(Clone, Copy)]
+#[derive(Clone, Copy, Debug, PartialEq, Eq)]
 pub struct ProRata;
 
 // The part of the claims that come to `reached`, rounded down, where `spent` is shared among claims that come to `sum`.
@@ -39,7 +39,7 @@ fn allot(pool: u64, sum: u64, claims: &[u64], into: &mut [u64])
 impl SharingRule for ProRata {
     const SERVES: usize = 64;
 
-    ghost serves = { 64 };
+    ghost SERVES = { 64 };
 
     ghost shares = { pro_rata };
 
@@ -51,11 +51,8 @@ impl SharingRule for ProRata {
 
     ghost whole = { Quotients.whole };
 
-    fn served() -> usize {
-        Self::SERVES
-    }
-
     // Beside what every rule promises: no cent is lost to rounding, and each share is within a cent of its exact part.
+    #[tactic(auto, using(crate::specs::Quotients::no_cent_lost, crate::specs::Quotients::within_a_cent))]
     fn share(&self, pool: u64, claims: &[u64], into: &mut [u64]) -> Result<(), Refusal>
         ensures cases { RefusedUnless (Shareable 64 pool claims.now (length into.old)) 19 (refusal result) }
         ensures after { into.new ≡ (if is_ok result then pro_rata pool claims.now else into.old) }

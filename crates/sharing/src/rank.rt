@@ -9,7 +9,7 @@ ghost use Rattle.std.proofs.Common.{rules};
 use crate::refusal::Refusal;
 use crate::rule::{Seats, SharingRule, admitted};
 
-#[derive(Clone, Copy)]
+#[derive(Clone, Copy, Debug, PartialEq, Eq)]
 pub struct ByRank;
 
 // Meets each claim out of what is left of the pool.
@@ -28,7 +28,7 @@ fn meet(pool: u64, claims: &[u64], into: &mut [u64])
 impl SharingRule for ByRank {
     const SERVES: usize = 64;
 
-    ghost serves = { 64 };
+    ghost SERVES = { 64 };
 
     ghost shares = { by_rank };
 
@@ -40,11 +40,8 @@ impl SharingRule for ByRank {
 
     ghost whole = { Ranks.whole };
 
-    fn served() -> usize {
-        Self::SERVES
-    }
-
     // Beside what every rule promises: a claim gets something only if every earlier claim is met in full.
+    #[tactic(auto, using(crate::specs::Ranks::earlier_first))]
     fn share(&self, pool: u64, claims: &[u64], into: &mut [u64]) -> Result<(), Refusal>
         ensures cases { RefusedUnless (Shareable 64 pool claims.now (length into.old)) 19 (refusal result) }
         ensures after { into.new ≡ (if is_ok result then by_rank pool claims.now else into.old) }

@@ -12,20 +12,23 @@ pub trait SharingRule {
     // how many claims the rule serves
     const SERVES: usize;
 
-    ghost serves: { ℕ };
+    ghost SERVES: { ℕ };
 
     // from a pool and claims to the share of each claim
     ghost shares: { ℕ → List ℕ → List ℕ };
 
     fn served() -> usize
-        ensures value { result ≡ serves };
+        ensures value { result ≡ SERVES }
+    {
+        Self::SERVES
+    }
 
     // Writes the share of each claim into `into`, or refuses and leaves it.
     fn share(&self, pool: u64, claims: &[u64], into: &mut [u64]) -> Result<(), Refusal>
-        ensures cases { RefusedUnless (Shareable serves pool claims.now (length into.old)) 19 (refusal result) }
+        ensures cases { RefusedUnless (Shareable SERVES pool claims.now (length into.old)) 19 (refusal result) }
         ensures after { into.new ≡ (if is_ok result then shares pool claims.now else into.old) };
 
-    ghost few: { (1 ≤ serves) × (serves ≤ 64) };
+    ghost few: { (1 ≤ SERVES) × (SERVES ≤ 64) };
 
     ghost each: { (pool : ℕ) (claims : List ℕ) → length (shares pool claims) ≡ length claims };
 
@@ -36,21 +39,17 @@ pub trait SharingRule {
 
 // A rule by how many claims it serves, for code that has to name the number.
 pub trait Seats<const N: usize>: SharingRule {
-    ghost seats: { Self.SharingRule.serves ≡ N };
+    ghost seats: { Self.SERVES ≡ N };
 }
 
 // The sum of the claims, where it keeps the limit.
 fn total(claims: &[u64]) -> Option<u64>
     ensures value { result ≡ (if nat_le (sum claims.now) most_cents then Some (sum claims.now) else None) }
 {
-    let mut sum = 0;
-    for claim in claims {
-        if *claim > MOST_CENTS - sum {
-            return None;
-        }
-        sum += *claim;
-    }
-    Some(sum)
+    claims
+        .iter()
+        .try_fold(0u64, |sum, claim| sum.checked_add(*claim))
+        .filter(|sum| *sum <= MOST_CENTS)
 }
 
 // The sum of the claims, where a rule that serves so many takes them.
@@ -66,8 +65,5 @@ pub(crate) fn admitted(
     if claims.len() != places || claims.len() > serves || pool > MOST_CENTS {
         return Err(Refusal::Unshareable);
     }
-    match total(claims) {
-        Some(sum) => Ok(sum),
-        None => Err(Refusal::Unshareable),
-    }
+    total(claims).ok_or(Refusal::Unshareable)
 }
