@@ -23,7 +23,7 @@ pub trait Layer {
     ghost keeps: { (s : Stand) (below : ℤ) → InRange s → AllKept adds s (turns s below) };
 }
 
-#[derive(Clone, Copy)]
+#[derive(Clone, Copy, Debug, PartialEq, Eq)]
 pub struct Floor;
 
 impl Layer for Floor {
@@ -44,7 +44,7 @@ impl Layer for Floor {
     }
 }
 
-#[derive(Clone, Copy)]
+#[derive(Clone, Copy, Debug, PartialEq, Eq)]
 pub struct Cap;
 
 impl Layer for Cap {
@@ -65,7 +65,7 @@ impl Layer for Cap {
     }
 }
 
-#[derive(Clone, Copy)]
+#[derive(Clone, Copy, Debug, PartialEq, Eq)]
 pub struct Withhold;
 
 impl Layer for Withhold {

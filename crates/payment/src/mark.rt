@@ -1,11 +1,10 @@
 // The ready mark of an asset.
-ghost use Rattle.std.specs.Prelude.{◌≡◌, ◌≤◌, IfOk, ◌==◌};
-ghost use Rattle.payment.specs.Mark.{mark_number};
-ghost use Rattle.payment.specs.Refusal.{RefusedUnless, refusal};
+ghost use Rattle.std.specs.Prelude.{◌≡◌, ◌==◌};
+ghost use Rattle.payment.specs.Mark.{IsMarkOf, mark_number};
 
 use crate::refusal::Refusal;
 
-#[derive(Clone, Copy)]
+#[derive(Clone, Copy, Debug, PartialEq, Eq)]
 pub enum Mark {
     NotReady,
     // Ready from the next period on.
@@ -13,12 +12,13 @@ pub enum Mark {
     Ready,
 }
 
-impl Mark {
-    // The mark that has this number.
-    pub fn of(n: u64) -> Result<Mark, Refusal>
-        ensures cases { RefusedUnless (n ≤ 2) 4 (refusal result) }
-        ensures value { IfOk result (λ mark. mark_number mark ≡ n) }
-    {
+// The mark that has this number.
+impl TryFrom<u64> for Mark {
+    type Error = Refusal;
+
+    ghost try_from_gives = { IsMarkOf };
+
+    fn try_from(n: u64) -> Result<Mark, Refusal> {
         match n {
             0 => Ok(Mark::NotReady),
             1 => Ok(Mark::ReadyNext),
@@ -26,21 +26,26 @@ impl Mark {
             _ => Err(Refusal::OutOfRange),
         }
     }
+}
 
-    pub fn number(self) -> u64
-        ensures value { result ≡ mark_number self }
-    {
-        match self {
+// The number of a mark.
+impl From<Mark> for u64 {
+    ghost from_gives = { λ mark n. n ≡ mark_number mark };
+
+    fn from(mark: Mark) -> u64 {
+        match mark {
             Mark::NotReady => 0,
             Mark::ReadyNext => 1,
             Mark::Ready => 2,
         }
     }
+}
 
+impl Mark {
     pub fn is_ready(self) -> bool
         ensures value { result ≡ (mark_number self == 2) }
     {
-        matches!(self, Mark::Ready)
+        self == Mark::Ready
     }
 }
 
@@ -51,10 +56,10 @@ mod tests {
 
     #[test]
     fn marks_are_0_to_2(rt: HostRuntime) -> Result<(), Fail> {
-        assert_eq!(rt; Mark::of(0)?.number(), 0);
-        assert_eq!(rt; Mark::of(1)?.number(), 1);
-        assert!(rt; Mark::of(2)?.is_ready());
-        assert!(rt; Mark::of(3).is_err());
+        assert_eq!(rt; u64::from(Mark::try_from(0)?), 0);
+        assert_eq!(rt; u64::from(Mark::try_from(1)?), 1);
+        assert!(rt; Mark::try_from(2)?.is_ready());
+        assert!(rt; Mark::try_from(3).is_err());
         Ok(())
     }
 }

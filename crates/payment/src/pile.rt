@@ -9,7 +9,7 @@ use crate::layers::{Cap, Floor, Layer, Withhold};
 use crate::rule::{PaymentRule, Whole, payment};
 use crate::standing::Standing;
 
-#[derive(Clone, Copy)]
+#[derive(Clone, Copy, Debug, PartialEq, Eq)]
 pub struct Over<L, P> {
     layer: L,
     below: P,

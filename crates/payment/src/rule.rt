@@ -29,7 +29,7 @@ pub fn payment<P: PaymentRule>(pile: &P, standing: &Standing, total: i64) -> i64
     pile.pay(standing, total)
 }
 
-#[derive(Clone, Copy)]
+#[derive(Clone, Copy, Debug, PartialEq, Eq)]
 pub struct Whole;
 
 impl PaymentRule for Whole {

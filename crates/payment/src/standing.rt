@@ -14,7 +14,7 @@ pub const CAP_BASE_MOST: i64 = 1_000_000_000;
 // The most that a commitment may be, in kilowatts.
 pub const COMMITMENT_MOST: u64 = 1_000_000;
 
-#[derive(Clone, Copy)]
+#[derive(Clone, Copy, Debug, PartialEq, Eq)]
 pub struct Standing {
     // The award in force, in cents.
     award: i64,

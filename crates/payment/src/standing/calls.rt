@@ -13,13 +13,10 @@ impl Standing {
         ensures cases { RefusedUnless (InRange (stand award cap_base commitment mark)) 4 (refusal result) }
         ensures value { IfOk result (λ s. view s ≡ stand award cap_base commitment mark) }
     {
-        if award < -AWARD_MOST || award > AWARD_MOST {
-            return Err(Refusal::OutOfRange);
-        }
-        if cap_base < 0 || cap_base > CAP_BASE_MOST {
-            return Err(Refusal::OutOfRange);
-        }
-        if commitment > COMMITMENT_MOST {
+        let in_range = (-AWARD_MOST..=AWARD_MOST).contains(&award)
+            && (0..=CAP_BASE_MOST).contains(&cap_base)
+            && commitment <= COMMITMENT_MOST;
+        if !in_range {
             return Err(Refusal::OutOfRange);
         }
         Ok(Standing {
