@@ -1,15 +1,15 @@
 // One line of input: a pool, a claim on it, or an asset's standing with the total due to it.
 use payment::{Mark, Refusal, Standing};
-use std::fmt;
 use std::str::{FromStr, SplitWhitespace};
+use thiserror::Error;
 
-#[derive(Clone, Copy)]
+#[derive(Clone, Copy, Debug, PartialEq, Eq)]
 pub struct Due {
     pub standing: Standing,
     pub total: i64,
 }
 
-#[derive(Clone, Copy)]
+#[derive(Clone, Copy, Debug, PartialEq, Eq)]
 pub enum Entry {
     // an empty line
     Nothing,
@@ -19,29 +19,13 @@ pub enum Entry {
 }
 
 // Why a line is not taken.
-#[derive(Clone, Copy)]
+#[derive(Clone, Copy, Debug, PartialEq, Eq, Error)]
 pub enum Fault {
     // its words are no entry
+    #[error("it cannot be read")]
     Unreadable,
-    // a value is outside its range
-    OutOfRange,
-}
-
-impl From<Refusal> for Fault {
-    fn from(why: Refusal) -> Fault {
-        match why {
-            Refusal::OutOfRange => Fault::OutOfRange,
-        }
-    }
-}
-
-impl fmt::Display for Fault {
-    fn fmt<W: fmt::Write>(&self, f: &mut fmt::Formatter<W>) -> fmt::Result {
-        match self {
-            Fault::Unreadable => write!(f, "it cannot be read"),
-            Fault::OutOfRange => write!(f, "a value is outside its range (refusal 4)"),
-        }
-    }
+    #[error("a value is outside its range (refusal {number})", number = .0.number())]
+    Refused(#[from] Refusal),
 }
 
 // The next word, as a number.
@@ -49,13 +33,8 @@ fn number<F: FromStr>(words: &mut SplitWhitespace<'_>) -> Result<F, Fault>
 where
     F::Err: Drop,
 {
-    let Some(word) = words.next() else {
-        return Err(Fault::Unreadable);
-    };
-    match word.parse::<F>() {
-        Ok(value) => Ok(value),
-        Err(_) => Err(Fault::Unreadable),
-    }
+    let word = words.next().ok_or(Fault::Unreadable)?;
+    word.parse().map_err(|_| Fault::Unreadable)
 }
 
 // A word that has to stand next, with the number behind it.
@@ -63,33 +42,37 @@ fn named<F: FromStr>(words: &mut SplitWhitespace<'_>, name: &str) -> Result<F, F
 where
     F::Err: Drop,
 {
-    match words.next() {
-        Some(word) if word == name => number(words),
-        _ => Err(Fault::Unreadable),
+    if words.next() != Some(name) {
+        return Err(Fault::Unreadable);
     }
+    number(words)
 }
 
 fn read_due(words: &mut SplitWhitespace<'_>) -> Result<Due, Fault> {
     let award = named(words, "award")?;
     let cap_base = named(words, "cap")?;
     let commitment = named(words, "kw")?;
-    let mark = named(words, "mark")?;
+    let mark: u64 = named(words, "mark")?;
     let total = named(words, "total")?;
-    let standing = Standing::new(award, cap_base, commitment, Mark::of(mark)?)?;
+    let standing = Standing::new(award, cap_base, commitment, mark.try_into()?)?;
     Ok(Due { standing, total })
 }
 
-pub fn read_entry(line: &str) -> Result<Entry, Fault> {
-    let mut words = line.split_whitespace();
-    let entry = match words.next() {
-        None => Entry::Nothing,
-        Some("pool") => Entry::Pool(number(&mut words)?),
-        Some("claim") => Entry::Claim(number(&mut words)?),
-        Some("asset") => Entry::Due(read_due(&mut words)?),
-        Some(_) => return Err(Fault::Unreadable),
-    };
-    match words.next() {
-        None => Ok(entry),
-        Some(_) => Err(Fault::Unreadable),
+impl FromStr for Entry {
+    type Err = Fault;
+
+    fn from_str(line: &str) -> Result<Entry, Fault> {
+        let mut words = line.split_whitespace();
+        let entry = match words.next() {
+            None => Entry::Nothing,
+            Some("pool") => Entry::Pool(number(&mut words)?),
+            Some("claim") => Entry::Claim(number(&mut words)?),
+            Some("asset") => Entry::Due(read_due(&mut words)?),
+            Some(_) => return Err(Fault::Unreadable),
+        };
+        match words.next() {
+            None => Ok(entry),
+            Some(_) => Err(Fault::Unreadable),
+        }
     }
 }

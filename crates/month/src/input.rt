@@ -1,14 +1,24 @@
 // The input, line by line, to a month.
-use crate::entry::{Due, Entry, Fault, read_entry};
+use crate::entry::{Due, Entry, Fault};
 use std::alloc::{AllocError, Global};
 use std::io::BufRead;
+use thiserror::Error;
 
 // What a month asks for.
-#[derive(Drop)]
+#[derive(Debug, Drop)]
 pub struct Month {
     pub pool: u64,
     pub claims: Vec<u64>,
     pub dues: Vec<Due>,
+}
+
+// Why an input is no month: memory ran out, or the first line that is not taken.
+#[derive(Debug, Drop, Error)]
+pub enum NotRead {
+    #[error(transparent)]
+    Memory(#[from] AllocError),
+    #[error("line {line}: {fault}")]
+    Line { line: usize, fault: Fault },
 }
 
 impl Month {
@@ -32,25 +42,20 @@ impl Month {
     }
 }
 
-// The whole input, or the first line that is not taken, with why.
-pub fn read_month<B: BufRead + Drop>(
-    heap: Global,
-    input: B,
-) -> Result<Result<Month, (usize, Fault)>, AllocError> {
+// The whole input.
+pub fn read_month<B: BufRead + Drop>(heap: Global, input: B) -> Result<Month, NotRead> {
     let mut month = Month::new(heap);
-    let mut at = 0usize;
-    for line in input.lines(heap) {
-        at = at.saturating_add(1);
-        let entry = match line {
-            Ok(text) => read_entry(text.as_str()),
-            Err(_) => Err(Fault::Unreadable),
-        };
-        match entry {
-            Ok(entry) => month.enter(entry)?,
-            Err(fault) => return Ok(Err((at, fault))),
-        }
+    for (before, text) in input.lines(heap).enumerate() {
+        let entry = text
+            .map_err(|_| Fault::Unreadable)
+            .and_then(|text| text.parse::<Entry>())
+            .map_err(|fault| NotRead::Line {
+                line: before + 1,
+                fault,
+            })?;
+        month.enter(entry)?;
     }
-    Ok(Ok(month))
+    Ok(month)
 }
 
 #[cfg(test)]
@@ -60,10 +65,10 @@ mod tests {
 
     // The number of the line that is not taken, 0 where all are, and whether a range is why.
     fn fault(heap: Global, text: &[u8]) -> Result<(usize, bool), AllocError> {
-        match read_month(heap, text)? {
+        match read_month(heap, text) {
             Ok(_) => Ok((0, false)),
-            Err((line, Fault::Unreadable)) => Ok((line, false)),
-            Err((line, Fault::OutOfRange)) => Ok((line, true)),
+            Err(NotRead::Line { line, fault }) => Ok((line, fault != Fault::Unreadable)),
+            Err(NotRead::Memory(full)) => Err(full),
         }
     }
 

@@ -5,16 +5,17 @@ mod entry;
 mod input;
 mod work;
 
-use input::read_month;
+use input::{NotRead, read_month};
 use std::io::BufReader;
 use work::print_month;
 
 // Nothing is worked before the whole input is read.
 fn run(rt: &HostRuntime) -> anyhow::Result<()> {
-    match read_month(rt.alloc(), BufReader::new(rt.alloc(), rt.stdin())?)? {
+    match read_month(rt.alloc(), BufReader::new(rt.alloc(), rt.stdin())?) {
         Ok(month) => print_month(rt, &month),
-        Err((line, fault)) => {
-            println!(rt; "line {line}: {fault}; nothing is worked")?;
+        Err(NotRead::Memory(full)) => Err(full.into()),
+        Err(why) => {
+            println!(rt; "{why}; nothing is worked")?;
             Ok(())
         }
     }

@@ -6,23 +6,19 @@ use crate::entry::Due;
 use crate::input::Month;
 use payment::standard_payment;
 use sharing::{ByRank, ProRata, Refusal, SharingRule};
-use std::alloc::{AllocError, Global};
 use std::io;
 
-// The shares of the claims by a rule, or why it refuses them.
+// The shares of the claims by a rule, in a list with a place for each.
 fn shares_of<R: SharingRule>(
-    heap: Global,
     rule: &R,
     pool: u64,
     claims: &[u64],
-) -> Result<Result<Vec<u64>, Refusal>, AllocError>
-    ensures value { IfOk result (λ tried. IfOk tried (λ v. v.items ≡ R.SharingRule.shares pool claims.now)) }
+    mut places: Vec<u64>,
+) -> Result<Vec<u64>, Refusal>
+    ensures value { IfOk result (λ shares. shares.items ≡ R.SharingRule.shares pool claims.now) }
 {
-    let mut into = vec![in heap; 0; claims.len()]?;
-    match rule.share(pool, claims, into.as_mut_slice()) {
-        Ok(()) => Ok(Ok(into)),
-        Err(why) => Ok(Err(why)),
-    }
+    rule.share(pool, claims, places.as_mut_slice())?;
+    Ok(places)
 }
 
 // What of a pool the shares leave.
@@ -55,7 +51,7 @@ fn print_due(rt: &HostRuntime, due: &Due) -> io::Result<()> {
     let award = due.standing.award();
     let cap_base = due.standing.cap_base();
     let commitment = due.standing.commitment();
-    let mark = due.standing.mark().number();
+    let mark = u64::from(due.standing.mark());
     let total = due.total;
     let paid = standard_payment(&due.standing, total);
     let carried = carried(total, paid);
@@ -66,14 +62,23 @@ fn print_due(rt: &HostRuntime, due: &Due) -> io::Result<()> {
 
 pub fn print_month(rt: &HostRuntime, month: &Month) -> anyhow::Result<()> {
     let pool = month.pool;
-    let parts = shares_of(rt.alloc(), &ProRata, pool, &month.claims)?;
-    let ranked = shares_of(rt.alloc(), &ByRank, pool, &month.claims)?;
-    let (Ok(parts), Ok(ranked)) = (parts, ranked) else {
-        println!(rt; "the pool of {pool} cannot be shared (refusal 19); nothing is worked")?;
-        return Ok(());
+    let claims = month.claims.as_slice();
+    let places = vec![in rt.alloc(); 0; claims.len()]?;
+    let more_places = places.clone()?;
+    let parts = shares_of(&ProRata, pool, claims, places);
+    let ranked = shares_of(&ByRank, pool, claims, more_places);
+    let (parts, ranked) = match (parts, ranked) {
+        (Ok(parts), Ok(ranked)) => (parts, ranked),
+        (Err(why), _) | (_, Err(why)) => {
+            let number = why.number();
+            println!(rt;
+                "the pool of {pool} cannot be shared (refusal {number}); nothing is worked"
+            )?;
+            return Ok(());
+        }
     };
     println!(rt; "pool {pool}")?;
-    print_claims(rt, &month.claims, &parts, &ranked)?;
+    print_claims(rt, claims, &parts, &ranked)?;
     let left_pro_rata = residue(pool, &parts);
     let left_by_rank = residue(pool, &ranked);
     println!(rt; "residue: pro rata {left_pro_rata}, by rank {left_by_rank}")?;
