@@ -14,7 +14,8 @@ pub struct ProRata;
 
 // The part of the claims that come to `reached`, rounded down, where `spent` is shared among claims that come to `sum`.
 fn quotient(spent: u64, reached: u64, sum: u64) -> u64
-    requires { (spent ≤ most_cents) × (reached ≤ most_cents) }
+    requires spent { spent ≤ most_cents }
+    requires reached { reached ≤ most_cents }
     ensures value { result ≡ spent * reached / sum }
 {
     if sum == 0 { 0 } else { spent * reached / sum }
@@ -22,7 +23,9 @@ fn quotient(spent: u64, reached: u64, sum: u64) -> u64
 
 // Writes each share as the difference of two quotients.
 fn allot(pool: u64, sum: u64, claims: &[u64], into: &mut [u64])
-    requires { (sum ≡ added claims.now) × ((sum ≤ most_cents) × (length claims.now ≡ length into.old)) }
+    requires sum { sum ≡ added claims.now }
+    requires limit { sum ≤ most_cents }
+    requires places { length claims.now ≡ length into.old }
     ensures after { into.new ≡ pro_rata pool claims.now }
 {
     let spent = pool.min(sum);
