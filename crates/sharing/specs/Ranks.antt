@@ -1,7 +1,8 @@
 -- What by_rank gives: as many shares as claims, none above its claim, the pool spent as far as claims go, earlier claims first.
 -- Assumes nothing.
-use Rattle.std.specs.Prelude.{◌≡◌, ℕ, zero, suc, ◌-◌, ◌<◌, ◌≤◌, min, List, [], ◌∷◌, length, sum, slice_index, refl}
-use Rattle.std.proofs.Common.{ap, ◌∙◌, ⊎_elim, not-suc-le-zero, le_of_suc-le-suc, arith}
+use Rattle.std.specs.Prelude.{◌≡◌, ℕ, zero, suc, ◌+◌, ◌-◌, ◌<◌, ◌≤◌, min, List, [], ◌∷◌, ◌++◌, length, take, drop, sum, slice_index, slice_index_or, slice_set, refl}
+use Rattle.std.proofs.Common.{ap, sym, ◌∙◌, ⊎_elim, not-suc-le-zero, le_of_suc-le-suc, arith}
+use Rattle.std.proofs.lemmas.List.{take_more_set, take_all, at_drop_more, at_drop_all, append_assoc, append-nil}
 use Rattle.std.proofs.lemmas.List.Sums.{sum_by-cons}
 use Rattle.std.proofs.lemmas.Bool.{cases_lt}
 use Rattle.sharing.specs.Rank.{by_rank, EarlierFirst}
@@ -39,3 +40,25 @@ earlier_first pool [] i j before some = refl
 earlier_first pool (c ∷ cs) zero j before some = absurd (not-suc-le-zero before)
 earlier_first pool (c ∷ cs) (suc i) zero before some = omega (arith, left_over pool c cs i some)
 earlier_first pool (c ∷ cs) (suc i) (suc j) before some = earlier_first (pool - c) cs i j (le_of_suc-le-suc before) some
+
+-- one more claim met out of what is left
+pub met_more : (left : ℕ) (claims into shares : List ℕ) (i met : ℕ) → met ≡ min left (slice_index claims i) → i < length claims → i < length into
+    → take i into ++ by_rank left (drop i claims) ≡ shares
+    → take (i + 1) (slice_set into i met) ++ by_rank (left - met) (drop (i + 1) claims) ≡ shares
+met_more left claims into shares i met e h k inv =
+    let x = slice_index_or claims i 0 in
+    let shorter : left - met ≡ left - x = omega arith in
+    ap (λ p. take (i + 1) (slice_set into i met) ++ by_rank p (drop (i + 1) claims)) shorter
+    ∙ ap (λ front. front ++ by_rank (left - x) (drop (i + 1) claims)) (take_more_set into i met k)
+    ∙ append_assoc (take i into) (met ∷ []) (by_rank (left - x) (drop (i + 1) claims))
+    ∙ ap (λ m. take i into ++ (m ∷ by_rank (left - x) (drop (i + 1) claims))) e
+    ∙ ap (λ back. take i into ++ back) (sym (at_drop_more (by_rank left) claims i 0 h))
+    ∙ inv
+
+-- all claims met
+pub met_all : (left : ℕ) (claims into shares : List ℕ) (i : ℕ) → length claims ≤ i → length into ≤ i → take i into ++ by_rank left (drop i claims) ≡ shares → into ≡ shares
+met_all left claims into shares i h k inv =
+    sym (append-nil into)
+    ∙ ap (λ front. front ++ []) (sym (take_all i into k))
+    ∙ ap (λ back. take i into ++ back) (sym (at_drop_all (by_rank left) claims i h))
+    ∙ inv
