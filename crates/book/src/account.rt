@@ -29,7 +29,7 @@ pub struct Terms {
 }
 
 // What is carried of an asset, in cents.
-#[derive(Clone, Copy)]
+#[derive(Clone, Copy, Debug, PartialEq, Eq)]
 pub struct Ledger {
     pub general: i64,
     // of the open month

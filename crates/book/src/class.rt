@@ -2,20 +2,26 @@
 ghost use Rattle.std.specs.Prelude.{◌≡◌, ◌+◌, ◌^◌, ◌<◌, ◌≤◌};
 ghost use Rattle.book.specs.Class.{minus, more, of, plus};
 
-#[derive(Clone, Copy)]
+#[derive(Clone, Copy, Debug, PartialEq, Eq)]
 pub enum Class {
     Delivery,
     Availability,
 }
 
 // One value for each class.
-#[derive(Clone, Copy)]
+#[derive(Clone, Copy, Debug, PartialEq, Eq)]
 pub struct ByClass {
     pub delivery: u64,
     pub availability: u64,
 }
 
 impl ByClass {
+    // Nothing in either.
+    pub const NONE: ByClass = ByClass {
+        delivery: 0,
+        availability: 0,
+    };
+
     // What is kept for a class.
     pub fn of(&self, class: Class) -> u64
         ensures value { result ≡ of class self.now }
@@ -34,11 +40,11 @@ impl ByClass {
         match class {
             Class::Delivery => ByClass {
                 delivery: self.delivery + cents,
-                availability: self.availability,
+                ..self
             },
             Class::Availability => ByClass {
-                delivery: self.delivery,
                 availability: self.availability + cents,
+                ..self
             },
         }
     }

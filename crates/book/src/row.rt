@@ -2,7 +2,7 @@
 use crate::class::ByClass;
 
 // One asset at one close.
-#[derive(Clone, Copy)]
+#[derive(Clone, Copy, Debug, PartialEq, Eq)]
 pub struct Row {
     pub asset: u64,
     // the award in force
@@ -16,7 +16,7 @@ pub struct Row {
 }
 
 // A close: how many rows it wrote, and what no claim took of each pool.
-#[derive(Clone, Copy)]
+#[derive(Clone, Copy, Debug, PartialEq, Eq)]
 pub struct Closed {
     pub rows: usize,
     pub residues: ByClass,

@@ -25,10 +25,8 @@ fn payment_of<P: PaymentRule>(pile: &P, year: u64, terms: &Terms, total: i64) ->
 {
     let award = terms.award_in_force(year);
     let commitment = terms.commitment_in_force(year);
-    match Standing::new(award, terms.cap_base, commitment, terms.mark) {
-        Ok(standing) => payment(pile, &standing, total),
-        Err(_) => unreachable(),
-    }
+    let standing = Standing::new(award, terms.cap_base, commitment, terms.mark).unwrap();
+    payment(pile, &standing, total)
 }
 
 // Closes one account with its shares.
@@ -44,10 +42,9 @@ fn settle_one<P: PaymentRule>(pile: &P, year: u64, account: &Account, share: ByC
     let ledger = account.ledger.closed(award, taken, share, payment);
     Settled {
         account: Account {
-            asset: account.asset,
-            holder: account.holder,
             terms: account.terms.closed(),
             ledger,
+            ..*account
         },
         row: Row {
             asset: account.asset,

@@ -38,12 +38,7 @@ impl Ledger {
         if off_way(ENTRIES_MOST, entries) {
             return None;
         }
-        Some(Ledger {
-            general: self.general,
-            entries,
-            claims: self.claims,
-            charges: self.charges,
-        })
+        Some(Ledger { entries, ..*self })
     }
 
     // The ledger with a sum paid in: it lowers charges, and the rest raises the general balance.
@@ -55,9 +50,8 @@ impl Ledger {
         let rest = cents - off.delivery - off.availability;
         Ledger {
             general: self.general + rest as i64,
-            entries: self.entries,
-            claims: self.claims,
             charges: self.charges.minus(off),
+            ..*self
         }
     }
 }

@@ -67,12 +67,6 @@ impl Terms {
             Mark::NotReady => Mark::NotReady,
             Mark::ReadyNext | Mark::Ready => Mark::Ready,
         };
-        Terms {
-            award: self.award,
-            commitment: self.commitment,
-            year: self.year,
-            cap_base: self.cap_base,
-            mark,
-        }
+        Terms { mark, ..*self }
     }
 }

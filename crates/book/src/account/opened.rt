@@ -11,10 +11,6 @@ impl Account {
     pub(crate) fn opened(asset: u64, holder: u64) -> Account
         ensures value { result ≡ opened asset holder }
     {
-        let none = ByClass {
-            delivery: 0,
-            availability: 0,
-        };
         Account {
             asset,
             holder,
@@ -28,8 +24,8 @@ impl Account {
             ledger: Ledger {
                 general: 0,
                 entries: 0,
-                claims: none,
-                charges: none,
+                claims: ByClass::NONE,
+                charges: ByClass::NONE,
             },
         }
     }

@@ -25,10 +25,7 @@ fn share_among<R: SharingRule>(rule: &R, pool: u64, claims: &[u64], into: &mut [
     requires { Shareable R.SharingRule.serves pool claims.now (length into.old) }
     ensures after { into.new ≡ R.SharingRule.shares pool claims.now }
 {
-    match rule.share(pool, claims, into) {
-        Ok(()) => {}
-        Err(_) => unreachable(),
-    }
+    rule.share(pool, claims, into).unwrap();
 }
 
 impl<R: Seats<N>, P: PaymentRule, const N: usize> Book<R, P, N> {
@@ -78,10 +75,7 @@ impl<R: Seats<N>, P: PaymentRule, const N: usize> Book<R, P, N> {
             self.accounts.as_mut_slice(),
             rows,
         );
-        self.pools = ByClass {
-            delivery: 0,
-            availability: 0,
-        };
+        self.pools = ByClass::NONE;
         self.closes += 1;
         Closed {
             rows: self.accounts.len(),

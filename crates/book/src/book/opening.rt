@@ -35,10 +35,7 @@ impl<R: Seats<N>, P: PaymentRule, const N: usize> Book<R, P, N> {
             rule,
             pile,
             accounts,
-            pools: ByClass {
-                delivery: 0,
-                availability: 0,
-            },
+            pools: ByClass::NONE,
             closes: 0,
         })
     }

@@ -21,7 +21,7 @@ impl<R: Seats<N>, P: PaymentRule, const N: usize> Book<R, P, N> {
             return Err(Refusal::NotListed);
         };
         let mut account = spot.account;
-        if account.terms.mark.number() != 0 {
+        if !matches!(account.terms.mark, Mark::NotReady) {
             return Err(Refusal::Marked);
         }
         account.terms.mark = Mark::ReadyNext;
