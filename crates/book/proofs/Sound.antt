@@ -1,6 +1,6 @@
 -- What every book keeps, over a new account and over a change of one.
 -- Assumes nothing.
-use Rattle.std.proofs.Common.{◌≡◌, ℕ, zero, suc, ◌+◌, ◌*◌, ◌<◌, ◌≤◌, false, eqb, List, [], ◌∷◌, ◌++◌, length, set, ℤ, ◌+ℤ◌, neg_ℤ, IfSome, Some, None, vec_items, sum_by, Option, sym, refl, ap, ◌∙◌, subst, ⊎_elim, le_of_suc-le-suc, not-suc-le-zero, arith, MatchOption}
+use Rattle.std.proofs.Common.{◌≡◌, ℕ, zero, suc, ◌+◌, ◌*◌, ◌<◌, ◌≤◌, false, eqb, List, [], ◌∷◌, ◌++◌, length, set, ℤ, ◌+ℤ◌, neg_ℤ, vec_items, sum_by, sym, refl, ap, ◌∙◌, subst, ⊎_elim, le_of_suc-le-suc, not-suc-le-zero, arith}
 use Rattle.std.proofs.lemmas.List.{get_or_append_left, get_or_push, get_or-set_other, get_or-set_same, length_push, length-set}
 use Rattle.std.proofs.lemmas.Int.{ints}
 use Rattle.std.proofs.lemmas.List.Sums.{get_or-le-sum_by, sum_by_push, sum_by-set}
@@ -21,6 +21,7 @@ use Rattle.book.specs.Small.{Small, Tight}
 use Rattle.book.specs.declared.account.Account.{Account}
 use Rattle.book.proofs.Ways.{credited_within}
 use Rattle.book.specs.declared.spot.Spot.{Spot}
+use Rattle.book.specs.declared.account.Ledger.{Ledger}
 use Rattle.book.specs.declared.account.Terms.{Terms}
 use Rattle.book.specs.declared.book.Book.{Book}
 use Rattle.book.specs.declared.class.ByClass.{ByClass}
@@ -206,23 +207,6 @@ kept_terms places closes pools xs asset terms spot kept found ranged =
     (λ k. omega (arith, kept.claims k))
     (λ k. omega (arith, kept.charges k))
 
--- the ledger at a spot leaves room for arithmetic
-pub small_at : (places closes : ℕ) (pools : ByClass) (xs : List Account) (asset : ℕ) (spot : Spot) → Kept places closes pools xs → closes ≤ closes_most
-    → Found asset xs spot → Small spot.account.ledger
-small_at places closes pools xs asset spot kept in_time found =
-    let l = (kept_at places closes pools xs asset spot kept found).ledger in
-    record {
-      general = (omega (arith, ints, l.0.0), omega (arith, ints, l.0.1));
-      entries = (omega (arith, ints, l.1.0), omega (arith, ints, l.1.1));
-      claims = omega (arith, spot_within (claim Delivery) xs asset spot found, spot_within (claim Availability) xs asset spot found, kept.claims Delivery, kept.claims Availability);
-      charges = omega (arith, spot_within (charge Delivery) xs asset spot found, spot_within (charge Availability) xs asset spot found, kept.charges Delivery, kept.charges Availability);
-    }
-
-pub small_found : (places closes : ℕ) (pools : ByClass) (xs : List Account) (asset : ℕ) (spot : Option Spot) → Kept places closes pools xs → closes ≤ closes_most
-    → MatchOption spot (listed asset xs ≡ false) (Found asset xs) → IfSome spot (λ s. Small s.account.ledger)
-small_found places closes pools xs asset (Some spot) kept in_time found = small_at places closes pools xs asset spot kept in_time found
-small_found places closes pools xs asset None kept in_time none = tt
-
 -- a sum paid in, no more than is owed, with terms that keep their ranges
 pub kept_crediting : (places closes : ℕ) (pools : ByClass) (xs : List Account) (asset cents : ℕ) (terms : Terms) (spot : Spot) → Kept places closes pools xs
     → Found asset xs spot → RangedTerms terms → cents ≤ above_zero (neg_ℤ (balance spot.account.ledger))
@@ -246,11 +230,6 @@ kept_crediting places closes pools xs asset cents terms spot kept found ranged o
     charges Delivery = omega (arith, kept.charges Delivery)
     charges Availability = omega (arith, kept.charges Availability)
 
-pub ranged_found : (places closes : ℕ) (pools : ByClass) (xs : List Account) (asset : ℕ) (spot : Option Spot) → Kept places closes pools xs
-    → MatchOption spot (listed asset xs ≡ false) (Found asset xs) → IfSome spot (λ s. RangedTerms s.account.terms)
-ranged_found places closes pools xs asset (Some spot) kept found = (kept_at places closes pools xs asset spot kept found).terms
-ranged_found places closes pools xs asset None kept none = tt
-
 -- every ledger leaves room for a close
 pub tight_each : (places closes : ℕ) (pools : ByClass) (xs : List Account) → Kept places closes pools xs → closes ≤ closes_most → Each (λ a. Tight a.ledger) xs
 tight_each places closes pools xs kept in_time i h =
@@ -261,3 +240,12 @@ tight_each places closes pools xs kept in_time i h =
       claims = omega (arith, get_or-le-sum_by (claim Delivery) xs i (opened 0 0) h, get_or-le-sum_by (claim Availability) xs i (opened 0 0) h, kept.claims Delivery, kept.claims Availability);
       charges = omega (arith, get_or-le-sum_by (charge Delivery) xs i (opened 0 0) h, get_or-le-sum_by (charge Availability) xs i (opened 0 0) h, kept.charges Delivery, kept.charges Availability);
     }
+
+-- a ledger that leaves room for a close leaves room for any one act
+pub small_from : (l : Ledger) → Tight l → Small l
+small_from l tight = record {
+  general = (omega (arith, ints, tight.general.0), omega (arith, ints, tight.general.1));
+  entries = tight.entries;
+  claims = tight.claims;
+  charges = tight.charges;
+}

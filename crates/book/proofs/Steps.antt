@@ -1,11 +1,12 @@
 -- Steps of calls that end in a shared act. Assumes nothing.
-use Rattle.std.proofs.Common.{◌≡◌, ℕ, Bool, true, false, cond, List, [], ◌∷◌, ◌++◌, set, ℤ, Some, None, Ok, Err, Result, sym, refl, ap, ◌∙◌, arith}
+use Rattle.std.proofs.Common.{◌≡◌, ℕ, Bool, true, false, cond, List, [], ◌∷◌, ◌++◌, set, ℤ, ◌+ℤ◌, Some, None, Ok, Err, Result, sym, refl, ap, ◌∙◌, subst, arith}
 use Rattle.payment.specs.Stand.{Stand}
 use Rattle.book.specs.Accounts.{account, change}
 use Rattle.book.specs.Calls.{Step, entered, entries_past, entry, grounds, on_ledger, on_terms, paid, resolution, uplift}
 use Rattle.book.specs.Class.{plus}
 use Rattle.book.specs.Entries.{credited, settled}
 use Rattle.book.specs.Find.{Found}
+use Rattle.book.specs.Limits.{entries_most, off_way}
 use Rattle.book.specs.Outcome.{Added, outcome}
 use Rattle.book.specs.Refusal.{first, number}
 use Rattle.book.specs.State.{State, state}
@@ -14,6 +15,7 @@ use Rattle.book.specs.declared.account.Terms.{Terms}
 use Rattle.book.specs.declared.class.ByClass.{ByClass}
 use Rattle.book.specs.declared.spot.Spot.{Spot}
 use Rattle.book.specs.declared.refusal.Refusal.{Refusal}
+use Rattle.book.specs.declared.refusal.Refusal.TheVariants.{PastLimit}
 
 -- a last ground, where no earlier one holds
 first_last : (early : List (Bool × ℕ)) (test : Bool) (n : ℕ) → first early ≡ None → first (early ++ (test, n) ∷ []) ≡ cond test (Some n) None
@@ -41,6 +43,12 @@ module _ (serves : ℕ) (rule : ℕ → List ℕ → List ℕ) (pays : Stand →
       (ap first same ∙ first_last early (entries_past s asset cents) 13 none ∙ ap (λ t. cond t (Some 13) None) within, after)
   resolution_step (Err why) early same none (past, limit, after) =
       (ap first same ∙ first_last early (entries_past s asset cents) 13 none ∙ ap (λ t. cond t (Some 13) None) past ∙ ap (λ w. Some (number w)) (sym limit), after)
+
+-- the month's entries would pass their limit
+pub added_past : (s : State) (asset : ℕ) (cents : ℤ) (spot : Spot) (r : Result (Unit {0}) Refusal) → Found asset s.accounts spot
+    → off_way entries_most (spot.account.ledger.entries +ℤ cents) ≡ true → r ≡ Err PastLimit → Added s asset cents r s
+added_past s asset cents spot r found past same =
+    subst (λ r. Added s asset cents r s) (sym same) (ap (λ a. off_way entries_most (a.ledger.entries +ℤ cents)) found.here ∙ past, refl, refl)
 
 -- an account written back with a sum paid in and new terms
 pub paid_at : (s : State) (asset cents : ℕ) (terms : Terms) (spot : Spot) (pools : ByClass) (put : Account) → Found asset s.accounts spot

@@ -1,20 +1,23 @@
 -- Where the account of an asset stands.
---   Found a spot xs   the spot has the asset's account, and a change of the account is a change there
---   earlier           a spot found before, else this one if it fits
+--   FoundAt asset xs place x   the place has the asset's account x, and a change of the account is a change there
+--   Found asset xs spot        the same of a spot
+--   Finds asset xs place       the place has the asset's account; there is none where the asset is not listed
 -- Assumes nothing.
-use Rattle.std.specs.Prelude.{◌≡◌, ℕ, ◌<◌, Bool, true, cond, List, length, Some, None, Option, slice_set}
+use Rattle.std.specs.Prelude.{◌≡◌, ℕ, ◌<◌, true, false, List, length, MatchOption, Option, slice_set}
 use Rattle.book.specs.Accounts.{account, at, change, listed}
 use Rattle.book.specs.declared.account.Account.{Account}
 use Rattle.book.specs.declared.spot.Spot.{Spot}
 
-pub record Found (asset : ℕ) (xs : List Account) (spot : Spot) : Type 0 where
-  pub within : spot.place < length xs
+pub record FoundAt (asset : ℕ) (xs : List Account) (place : ℕ) (x : Account) : Type 0 where
+  pub within : place < length xs
   pub is_listed : listed asset xs ≡ true
-  pub its : spot.account.asset ≡ asset
-  pub here : account asset xs ≡ spot.account
-  pub there : at spot.place xs ≡ spot.account
-  pub changes : (f : Account → Account) → change asset f xs ≡ slice_set xs spot.place (f spot.account)
+  pub its : x.asset ≡ asset
+  pub here : account asset xs ≡ x
+  pub there : at place xs ≡ x
+  pub changes : (f : Account → Account) → change asset f xs ≡ slice_set xs place (f x)
 
-abbrev pub earlier : Option Spot → Spot → Bool → Option Spot
-earlier (Some spot) here fits = Some spot
-earlier None here fits = cond fits (Some here) None
+abbrev pub Found : ℕ → List Account → Spot → Type 0
+Found asset xs spot = FoundAt asset xs spot.place spot.account
+
+abbrev pub Finds : ℕ → List Account → Option ℕ → Type 0
+Finds asset xs place = MatchOption place (listed asset xs ≡ false) (λ i. FoundAt asset xs i (at i xs))

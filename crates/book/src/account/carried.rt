@@ -1,13 +1,15 @@
 // What a ledger carries, and a sum paid into it.
-ghost use Rattle.std.specs.Prelude.{◌≡◌, ◌≤◌, true, false, ◌+ℤ◌, MatchOption};
+ghost use Rattle.std.specs.Prelude.{◌≡◌, ◌≤◌, true, false, ◌+ℤ◌, MatchResult};
 ghost use Rattle.book.specs.Account.{EitherWay, balance, owes_less};
 ghost use Rattle.book.specs.Entries.{adding, credited, settled};
 ghost use Rattle.book.specs.Limits.{entries_most, off_way};
 ghost use Rattle.book.specs.Small.{Small};
+ghost use Rattle.book.specs.declared.refusal.Refusal.TheVariants.{PastLimit};
 
 use crate::account::Ledger;
 use crate::class::ByClass;
 use crate::limits::{ENTRIES_MOST, off_way};
+use crate::refusal::Refusal;
 
 impl Ledger {
     // The carried balance.
@@ -30,15 +32,15 @@ impl Ledger {
     }
 
     // The ledger with more or less in the month's entries, where they keep their limit.
-    pub(crate) fn added(&self, cents: i64) -> Option<Ledger>
+    pub(crate) fn added(&self, cents: i64) -> Result<Ledger, Refusal>
         requires { (Small self.now) × (EitherWay entries_most cents) }
-        ensures cases { MatchOption result (off_way entries_most (self.now.entries +ℤ cents) ≡ true) (λ l. (off_way entries_most (self.now.entries +ℤ cents) ≡ false) × (l ≡ adding cents self.now)) }
+        ensures cases { MatchResult result (λ l. (off_way entries_most (self.now.entries +ℤ cents) ≡ false) × (l ≡ adding cents self.now)) (λ why. (why ≡ PastLimit) × (off_way entries_most (self.now.entries +ℤ cents) ≡ true)) }
     {
         let entries = self.entries + cents;
         if off_way(ENTRIES_MOST, entries) {
-            return None;
+            return Err(Refusal::PastLimit);
         }
-        Some(Ledger { entries, ..*self })
+        Ok(Ledger { entries, ..*self })
     }
 
     // The ledger with a sum paid in: it lowers charges, and the rest raises the general balance.

@@ -1,9 +1,9 @@
 // Overs and unders.
-ghost use Rattle.std.specs.Prelude.{◌≡◌, false, pos, IfOk, MatchOption};
-ghost use Rattle.book.specs.Accounts.{listed};
+ghost use Rattle.std.specs.Prelude.{◌+◌, [], ◌∷◌, ◌++◌, pos, IfOk, ◌≡◌, nat_lt};
+ghost use Rattle.sharing.specs.Rule.{most_cents};
 ghost use Rattle.book.specs.Book.{view};
 ghost use Rattle.book.specs.Calls.{Step, adjustment, entered, entry, over, under};
-ghost use Rattle.book.specs.Find.{Found};
+ghost use Rattle.book.specs.Find.{Finds, Found};
 ghost use Rattle.book.specs.Outcome.{outcome};
 ghost use Rattle.book.specs.Refusal.{first, refusal};
 
@@ -17,29 +17,31 @@ use payment::PaymentRule;
 use sharing::{MOST_CENTS, Seats};
 
 impl<R: Seats<N>, P: PaymentRule, const N: usize> Book<R, P, N> {
-    // Why an over or an under is refused, its class total not yet looked at.
+    // Why an over or an under is refused, else the spot that it goes to: of the asset's place, and what its class comes to without it.
     fn adjustable(
         &self,
         class: Class,
         asset: u64,
         cents: u64,
-        spot: Option<Spot>,
+        place: Option<usize>,
+        total: u64,
     ) -> Result<Spot, Refusal>
-        requires { MatchOption spot (listed asset self.now.accounts.items ≡ false) (Found asset self.now.accounts.items) }
-        ensures cases { refusal result ≡ first (adjustment (view self.now) class asset (pos cents)) }
+        requires { Finds asset self.now.accounts.items place }
+        ensures cases { refusal result ≡ first (adjustment (view self.now) class asset (pos cents) ++ (nat_lt most_cents (total + cents), 13) ∷ []) }
         ensures value { IfOk result (Found asset self.now.accounts.items) }
     {
         if off(ASSET_MOST, asset) || off(ENTRY_MOST, cents) {
             return Err(Refusal::OutOfRange);
         }
-        let Some(spot) = spot else {
-            return Err(Refusal::NotListed);
-        };
+        let spot = self.spot(place.ok_or(Refusal::NotListed)?);
         if self.wrong_month(class) {
             return Err(Refusal::WrongMonth);
         }
         if spot.account.terms.commitment_in_force(self.year()) == 0 {
             return Err(Refusal::NoCommitment);
+        }
+        if total.saturating_add(cents) > MOST_CENTS {
+            return Err(Refusal::PastLimit);
         }
         Ok(spot)
     }
@@ -49,10 +51,7 @@ impl<R: Seats<N>, P: PaymentRule, const N: usize> Book<R, P, N> {
         ensures step { Step N R.SharingRule.shares P.PaymentRule.pays (view self.old) (outcome (entry (over class) asset (pos cents)) (λ _. entered (over class) asset (pos cents)) result) (view self.new) }
     {
         let located = find_with_totals(&self.accounts, class, asset);
-        let spot = self.adjustable(class, asset, cents, located.spot)?;
-        if located.claims.saturating_add(cents) > MOST_CENTS {
-            return Err(Refusal::PastLimit);
-        }
+        let spot = self.adjustable(class, asset, cents, located.place, located.claims)?;
         let mut account = spot.account;
         account.ledger.claims = account.ledger.claims.more(class, cents);
         self.put(spot.place, account, self.pools);
@@ -64,15 +63,8 @@ impl<R: Seats<N>, P: PaymentRule, const N: usize> Book<R, P, N> {
         ensures step { Step N R.SharingRule.shares P.PaymentRule.pays (view self.old) (outcome (entry (under class) asset (pos cents)) (λ _. entered (under class) asset (pos cents)) result) (view self.new) }
     {
         let located = find_with_totals(&self.accounts, class, asset);
-        let spot = self.adjustable(class, asset, cents, located.spot)?;
-        if located
-            .charges
-            .saturating_add(self.pools.of(class))
-            .saturating_add(cents)
-            > MOST_CENTS
-        {
-            return Err(Refusal::PastLimit);
-        }
+        let total = located.charges + self.pools.of(class);
+        let spot = self.adjustable(class, asset, cents, located.place, total)?;
         let mut account = spot.account;
         account.ledger.charges = account.ledger.charges.more(class, cents);
         self.put(spot.place, account, self.pools);

@@ -6,8 +6,8 @@ ghost use Rattle.book.specs.Calls.{Step, entered, entry, uplift};
 ghost use Rattle.book.specs.Find.{Found};
 ghost use Rattle.book.specs.Limits.{entries_most};
 ghost use Rattle.book.specs.Outcome.{Added, outcome};
-ghost use Rattle.book.specs.Small.{Small};
 
+use crate::account::Account;
 use crate::book::Book;
 use crate::limits::{ASSET_MOST, ENTRY_MOST, off};
 use crate::refusal::Refusal;
@@ -17,15 +17,15 @@ use sharing::Seats;
 
 impl<R: Seats<N>, P: PaymentRule, const N: usize> Book<R, P, N> {
     // Adds to the month's entries of an account, within their limit.
-    pub(crate) fn add(&mut self, asset: u64, spot: Spot, cents: i64) -> Result<(), Refusal>
-        requires { (Found asset self.old.accounts.items spot) × ((Small spot.account.ledger) × (EitherWay entries_most cents)) }
-        ensures cases { Added (view self.old) asset cents result (view self.new) }
+    pub(crate) fn add(&mut self, spot: Spot, cents: i64) -> Result<(), Refusal>
+        requires { (Found spot.account.asset self.old.accounts.items spot) × (EitherWay entries_most cents) }
+        ensures cases { Added (view self.old) spot.account.asset cents result (view self.new) }
     {
-        let mut account = spot.account;
-        let Some(ledger) = account.ledger.added(cents) else {
-            return Err(Refusal::PastLimit);
+        let ledger = spot.account.ledger.added(cents)?;
+        let account = Account {
+            ledger,
+            ..spot.account
         };
-        account.ledger = ledger;
         self.put(spot.place, account, self.pools);
         Ok(())
     }
@@ -37,12 +37,10 @@ impl<R: Seats<N>, P: PaymentRule, const N: usize> Book<R, P, N> {
         if off(ASSET_MOST, asset) || off(ENTRY_MOST, cents) {
             return Err(Refusal::OutOfRange);
         }
-        let Some(spot) = self.locate(asset) else {
-            return Err(Refusal::NotListed);
-        };
+        let spot = self.locate(asset)?;
         if spot.account.terms.commitment_in_force(self.year()) == 0 {
             return Err(Refusal::NoCommitment);
         }
-        self.add(asset, spot, cents as i64)
+        self.add(spot, cents as i64)
     }
 }

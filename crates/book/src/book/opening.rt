@@ -69,9 +69,7 @@ impl<R: Seats<N>, P: PaymentRule, const N: usize> Book<R, P, N> {
         if off(ASSET_MOST, asset) {
             return Err(Refusal::OutOfRange);
         }
-        match self.locate(asset) {
-            Some(spot) => Ok(spot.account),
-            None => Err(Refusal::NotListed),
-        }
+        let spot = self.locate(asset)?;
+        Ok(spot.account)
     }
 }

@@ -6,7 +6,6 @@ ghost use Rattle.book.specs.Calls.{Step, entered, entry, on_terms, paid, payin};
 ghost use Rattle.book.specs.Close.{above_zero};
 ghost use Rattle.book.specs.Find.{Found};
 ghost use Rattle.book.specs.Outcome.{outcome};
-ghost use Rattle.book.specs.Small.{Small};
 
 use crate::account::Terms;
 use crate::account::carried::settled;
@@ -19,9 +18,9 @@ use sharing::Seats;
 
 impl<R: Seats<N>, P: PaymentRule, const N: usize> Book<R, P, N> {
     // Credits an account with a sum that it owes, and gives it these terms.
-    pub(crate) fn credit(&mut self, asset: u64, spot: Spot, terms: Terms, cents: u64)
-        requires { (Found asset self.old.accounts.items spot) × ((Small spot.account.ledger) × ((RangedTerms terms) × ((cents ≤ above_zero (neg_ℤ (balance spot.account.ledger))) × (cents ≤ 4000000000)))) }
-        ensures after { view self.new ≡ paid asset cents (on_terms (λ _. terms)) (view self.old) }
+    pub(crate) fn credit(&mut self, spot: Spot, terms: Terms, cents: u64)
+        requires { (Found spot.account.asset self.old.accounts.items spot) × ((RangedTerms terms) × ((cents ≤ above_zero (neg_ℤ (balance spot.account.ledger))) × (cents ≤ 4000000000))) }
+        ensures after { view self.new ≡ paid spot.account.asset cents (on_terms (λ _. terms)) (view self.old) }
     {
         let mut account = spot.account;
         let pools = self.pools.plus(settled(cents, account.ledger.charges));
@@ -37,13 +36,11 @@ impl<R: Seats<N>, P: PaymentRule, const N: usize> Book<R, P, N> {
         if off(ASSET_MOST, asset) || off(ENTRY_MOST, cents) {
             return Err(Refusal::OutOfRange);
         }
-        let Some(spot) = self.locate(asset) else {
-            return Err(Refusal::NotListed);
-        };
+        let spot = self.locate(asset)?;
         if spot.account.ledger.owes_less(cents) {
             return Err(Refusal::NotOwed);
         }
-        self.credit(asset, spot, spot.account.terms, cents);
+        self.credit(spot, spot.account.terms, cents);
         Ok(())
     }
 }

@@ -17,10 +17,8 @@ impl<R: Seats<N>, P: PaymentRule, const N: usize> Book<R, P, N> {
         requires { EitherWay entries_most cents }
         ensures step { Step N R.SharingRule.shares P.PaymentRule.pays (view self.old) (outcome (entry posting asset cents) (λ _. entered posting asset cents) result) (view self.new) }
     {
-        let Some(spot) = self.locate(asset) else {
-            return Err(Refusal::NotListed);
-        };
-        self.add(asset, spot, cents)
+        let spot = self.locate(asset)?;
+        self.add(spot, cents)
     }
 
     // Posts a resolution to its asset's month, or hands it back.

@@ -17,9 +17,7 @@ impl<R: Seats<N>, P: PaymentRule, const N: usize> Book<R, P, N> {
         if off(ASSET_MOST, asset) {
             return Err(Refusal::OutOfRange);
         }
-        let Some(spot) = self.locate(asset) else {
-            return Err(Refusal::NotListed);
-        };
+        let spot = self.locate(asset)?;
         let mut account = spot.account;
         if !matches!(account.terms.mark, Mark::NotReady) {
             return Err(Refusal::Marked);

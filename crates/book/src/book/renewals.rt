@@ -24,9 +24,7 @@ impl<R: Seats<N>, P: PaymentRule, const N: usize> Book<R, P, N> {
         if off(ASSET_MOST, asset) || off_way(AWARD_MOST, award) || commitment > COMMITMENT_MOST {
             return Err(Refusal::OutOfRange);
         }
-        let Some(spot) = self.locate(asset) else {
-            return Err(Refusal::NotListed);
-        };
+        let spot = self.locate(asset)?;
         if self.month() != 1 {
             return Err(Refusal::WrongMonth);
         }
@@ -40,12 +38,7 @@ impl<R: Seats<N>, P: PaymentRule, const N: usize> Book<R, P, N> {
             return Err(Refusal::TooFarBelow);
         }
         let invoice = invoice_of(terms.award, award, carried);
-        self.credit(
-            asset,
-            spot,
-            terms.renewed(year, award, commitment, ready),
-            invoice,
-        );
+        self.credit(spot, terms.renewed(year, award, commitment, ready), invoice);
         Ok(invoice)
     }
 }

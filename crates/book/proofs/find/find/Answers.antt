@@ -1,10 +1,10 @@
-use Rattle.std.proofs.Common.{arith, rules}
-use Rattle.book.proofs.Places.{found, not_found}
+use Rattle.std.proofs.Common.{eqb, rules, tests}
+use Rattle.std.proofs.lemmas.Iterator.{YieldsList-from_slice}
+use Rattle.std.proofs.lemmas.Iterator.Search.{position_from_yields_List}
+use Rattle.book.proofs.Places.{first_found}
 use Rattle.book.proofs.find.find.Goals as goal
 
-pub returns-then-account-asset : goal.returns-then-account-asset
-returns-then-account-asset c =
-    record { cases = found c.args.asset c.args.accounts.now c.loop-i.i c.loop-i-test.true c.loop-i.invariant (search rules) }
-
 pub returns : goal.returns
-returns c = record { cases = not_found c.args.asset c.args.accounts.now (λ k h. c.loop-i.invariant k (omega arith)) }
+returns c =
+    let xs = c.args.accounts.now in
+    record { cases = first_found c.args.asset xs c.position.result (position_from_yields_List (λ x. eqb x.asset c.args.asset) _ _ c.position.result c.position.ensures.ran (YieldsList-from_slice xs cc) (λ x b q k. search (rules, tests))) }

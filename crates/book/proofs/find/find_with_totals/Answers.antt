@@ -2,8 +2,9 @@ use Rattle.std.proofs.Common.{◌+◌, sym, ap, ◌∙◌, subst, arith, MatchOp
 use Rattle.std.proofs.lemmas.List.{take_all}
 use Rattle.std.proofs.lemmas.List.Sums.{sum_by_more, sum_by-take-le}
 use Rattle.book.specs.Account.{opened}
-use Rattle.book.specs.Accounts.{charge, charged, claim, claimed}
-use Rattle.book.specs.Find.{Found}
+use Rattle.std.specs.Option.{option_or}
+use Rattle.book.specs.Find.{FoundAt}
+use Rattle.book.specs.Accounts.{at, charge, charged, claim, claimed}
 use Rattle.book.proofs.Places.{Before, found_all, found_more}
 use Rattle.book.proofs.find.find_with_totals.Goals as goal
 
@@ -24,8 +25,8 @@ loop-i-preserved c =
     let xs = c.args.accounts.now in
     let i = c.loop-i.i in
     let class = c.args.class in (
-      subst (λ spot. MatchOption spot (Before c.args.asset (i + 1) xs) (Found c.args.asset xs)) (sym c.first_spot-spot.ensures.value)
-          (found_more c.args.asset xs i c.loop-i.spot c.loop-i-test.true c.loop-i.invariant.0),
+      subst (λ place. MatchOption place (Before c.args.asset (i + 1) xs) (λ k. FoundAt c.args.asset xs k (at k xs))) (sym (c.or-place.ensures ∙ ap (option_or c.loop-i.place) c.then_some.ensures))
+          (found_more c.args.asset xs i c.loop-i.place c.loop-i-test.true c.loop-i.invariant.0),
       omega (arith, c.of-claims.ensures.value, sum_by_more (claim class) xs i (opened 0 0) c.loop-i-test.true),
       omega (arith, c.of-charges.ensures.value, sum_by_more (charge class) xs i (opened 0 0) c.loop-i-test.true),
     )
@@ -35,7 +36,7 @@ returns c =
     let xs = c.args.accounts.now in
     let all = take_all c.loop-i.i xs c.loop-i-test.false in
     record {
-      cases = found_all c.args.asset xs c.loop-i.i c.loop-i.spot c.loop-i-test.false c.loop-i.invariant.0;
+      cases = found_all c.args.asset xs c.loop-i.i c.loop-i.place c.loop-i-test.false c.loop-i.invariant.0;
       claims = c.loop-i.invariant.1 ∙ ap (claimed c.args.class) all;
       charges = c.loop-i.invariant.2 ∙ ap (charged c.args.class) all;
     }

@@ -14,8 +14,8 @@ pub plus-pools-requires : goal.plus-pools-requires
 plus-pools-requires g c =
     let b = c.args.self.now in
     let xs = vec_items b.accounts in
-    let d = spot_within (charge Delivery) xs c.args.asset c.args.spot c.requires.0 in
-    let a = spot_within (charge Availability) xs c.args.asset c.args.spot c.requires.0 in
+    let d = spot_within (charge Delivery) xs c.args.spot.account.asset c.args.spot c.requires.0 in
+    let a = spot_within (charge Availability) xs c.args.spot.account.asset c.args.spot c.requires.0 in
     (omega (arith, d, b.charges_within Delivery, c.settled.ensures.bound.0), omega (arith, a, b.charges_within Availability, c.settled.ensures.bound.1))
 
 pub put-requires : goal.put-requires
@@ -31,7 +31,7 @@ put-requires g c =
         found.within,
         subst (λ pools. Kept g.row.N b.closes pools (set xs spot.place (on_terms (λ _. c.args.terms) (on_ledger (λ _. c.credited-account.result) spot.account)))) (sym pooled)
             (subst (λ l. Kept g.row.N b.closes (plus b.pools (settled c.args.cents spot.account.ledger.charges)) (set xs spot.place (on_terms (λ _. c.args.terms) (on_ledger (λ _. l) spot.account)))) (sym ledger)
-            (kept_crediting g.row.N b.closes b.pools xs c.args.asset c.args.cents c.args.terms spot (kept_by b) found c.requires.1.1.0 c.requires.1.1.1.0)),
+            (kept_crediting g.row.N b.closes b.pools xs c.args.spot.account.asset c.args.cents c.args.terms spot (kept_by b) found c.requires.1.0 c.requires.1.1.0)),
       ),
     )
 
@@ -44,7 +44,7 @@ returns g c =
     record {
       after =
           c.put.ensures.after
-          ∙ paid_at (view b) c.args.asset c.args.cents c.args.terms spot c.plus-pools.result
+          ∙ paid_at (view b) c.args.spot.account.asset c.args.cents c.args.terms spot c.plus-pools.result
           (on_terms (λ _. c.args.terms) (on_ledger (λ _. c.credited-account.result) spot.account)) c.requires.0
           (ap (λ l. on_terms (λ _. c.args.terms) (on_ledger (λ _. l) spot.account)) ledger) pooled;
     }

@@ -15,5 +15,6 @@ returns g c =
       step =
           resolution_step g.row.N g.R.SharingRule.shares g.P.PaymentRule.pays s (view c.add.new.self) c.args.asset c.args.cents c.add.result
           ((unlisted s c.args.asset, 8) ∷ []) refl none
-          (subst (λ z. Added s c.args.asset z c.add.result (view c.add.new.self)) (to_z-of_z w64 c.args.cents c.ranges.cents) c.add.ensures.cases);
+          (subst (λ n. Added s n c.args.cents c.add.result (view c.add.new.self)) c.in_ok-spot.ensures.cases.its
+          (subst (λ z. Added s c.in_ok-spot.spot.account.asset z c.add.result (view c.add.new.self)) (to_z-of_z w64 c.args.cents c.ranges.cents) c.add.ensures.cases));
     }

@@ -7,12 +7,12 @@ pub put-requires : goal.put-requires
 put-requires g c =
     let b = c.args.self.now in
     let xs = vec_items b.accounts in
-    let spot = c.in-Some.spot in
-    let found = c.in-Some.ensures.cases in (
+    let spot = c.in_ok-spot.spot in
+    let found = c.in_ok-spot.ensures.cases in (
       search rules,
       (
         found.within,
         kept_terms g.row.N b.closes b.pools xs c.args.asset (marked spot.account.terms) spot (kept_by b) found
-            c.in-Some.ensures.terms,
+            spot.ranged,
       ),
     )
