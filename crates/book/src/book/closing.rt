@@ -17,9 +17,6 @@ use crate::settling::settle_all;
 use payment::PaymentRule;
 use sharing::{Seats, SharingRule};
 
-// The most assets that any rule serves.
-const PLACES: usize = 64;
-
 // Shares a pool that the rule takes.
 fn share_among<R: SharingRule>(rule: &R, pool: u64, claims: &[u64], into: &mut [u64])
     requires { Shareable R.SharingRule.serves pool claims.now (length into.old) }
@@ -37,35 +34,33 @@ impl<R: Seats<N>, P: PaymentRule, const N: usize> Book<R, P, N> {
         self.pools.of(class) + taken_by_all(&self.accounts, self.year(), class)
     }
 
-    // Shares the pool of a class among its claims, and answers what no claim took. The claims go into a list of their own.
-    fn share_class(&self, class: Class, claims: &mut [u64], shares: &mut [u64]) -> u64
-        requires { (length claims.old ≡ length self.now.accounts.items) × (length shares.old ≡ length self.now.accounts.items) }
+    // Shares the pool of a class among its claims, and answers what no claim took.
+    fn share_class(&self, class: Class, shares: &mut [u64]) -> u64
+        requires { length shares.old ≡ length self.now.accounts.items }
         ensures after { shares.new ≡ shares_of R.SharingRule.shares (view self.now) class }
         ensures value { result ≡ residue_of R.SharingRule.shares (view self.now) class }
     {
+        let claims = &mut [0; N][..self.accounts.len()];
         let pool = self.pool_of(class);
         let sum = gather_claims(&self.accounts, class, claims);
         share_among(&self.rule, pool, claims, shares);
         pool.saturating_sub(sum)
     }
 
-    // Closes the period, with lists to work in that have a place for each asset.
-    fn close_with(
-        &mut self,
-        claims: &mut [u64],
-        delivery: &mut [u64],
-        availability: &mut [u64],
-        rows: &mut [Row],
-    ) -> Closed
-        requires { (self.old.closes < closes_most) × ((length claims.old ≡ length self.old.accounts.items) × ((length delivery.old ≡ length self.old.accounts.items) × ((length availability.old ≡ length self.old.accounts.items) × (length self.old.accounts.items ≤ length rows.old)))) }
+    // Closes the period, into a list that has a place for each asset.
+    fn close_with(&mut self, rows: &mut [Row]) -> Closed
+        requires { (self.old.closes < closes_most) × (length self.old.accounts.items ≤ length rows.old) }
         ensures value { (result.rows ≡ length self.old.accounts.items) × (result.residues ≡ residues_of R.SharingRule.shares (view self.old)) }
         ensures after { view self.new ≡ closed_state R.SharingRule.shares P.PaymentRule.pays (view self.old) }
         ensures rows { rows.new ≡ rows_of R.SharingRule.shares P.PaymentRule.pays (view self.old) ++ drop (length self.old.accounts.items) rows.old }
     {
+        let count = self.accounts.len();
+        let delivery = &mut [0; N][..count];
+        let availability = &mut [0; N][..count];
         let year = self.year();
         let residues = ByClass {
-            delivery: self.share_class(Class::Delivery, claims, delivery),
-            availability: self.share_class(Class::Availability, claims, availability),
+            delivery: self.share_class(Class::Delivery, delivery),
+            availability: self.share_class(Class::Availability, availability),
         };
         settle_all(
             &self.pile,
@@ -78,7 +73,7 @@ impl<R: Seats<N>, P: PaymentRule, const N: usize> Book<R, P, N> {
         self.pools = ByClass::NONE;
         self.closes += 1;
         Closed {
-            rows: self.accounts.len(),
+            rows: count,
             residues,
         }
     }
@@ -92,18 +87,9 @@ impl<R: Seats<N>, P: PaymentRule, const N: usize> Book<R, P, N> {
         if self.closes >= CLOSES_MOST {
             return Err(Refusal::AllClosed);
         }
-        let count = self.accounts.len();
-        if rows.len() < count {
+        if rows.len() < self.accounts.len() {
             return Err(Refusal::FewRows);
         }
-        let mut claims = [0; PLACES];
-        let mut delivery = [0; PLACES];
-        let mut availability = [0; PLACES];
-        Ok(self.close_with(
-            &mut claims[0..count],
-            &mut delivery[0..count],
-            &mut availability[0..count],
-            rows,
-        ))
+        Ok(self.close_with(rows))
     }
 }

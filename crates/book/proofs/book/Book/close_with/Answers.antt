@@ -26,8 +26,8 @@ settle_all-requires g c =
       ),
     )
 
-pub invariant_of-self : goal.invariant_of-self
-invariant_of-self g c =
+pub invariant_of-self-2 : goal.invariant_of-self-2
+invariant_of-self-2 g c =
     let b = c.args.self.now in
     let s = view b in
     let rule = g.R.SharingRule.shares in

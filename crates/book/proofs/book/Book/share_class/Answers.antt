@@ -14,7 +14,7 @@ share_among-requires g c =
     let asked : c.gather_claims-sum.new.into ≡ claims class xs = search rules in
     let as_many : length c.gather_claims-sum.new.into ≡ length xs = ap length asked ∙ length-map xs (claim class) in
     record {
-      a_place_each = omega (arith, as_many, c.requires.1);
+      a_place_each = omega (arith, as_many, c.requires);
       few = omega (arith, as_many, b.few, g.met.R.Seats.seats);
       pool_within = c.pool_of-pool.ensures.bound;
       claims_within = omega (arith, ap sum asked, sum-map (claim class) xs, b.claims_within class);
