@@ -3,7 +3,7 @@ use crate::class::ByClass;
 use payment::Mark;
 
 pub(crate) mod carried;
-mod closing;
+pub(crate) mod closing;
 mod in_force;
 pub(crate) mod invoice;
 mod opened;

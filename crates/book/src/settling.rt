@@ -5,6 +5,7 @@ ghost use Rattle.book.specs.Account.{RangedTerms, standing};
 ghost use Rattle.book.specs.Closable.{Closable, due_at};
 ghost use Rattle.book.specs.Close.{account_after, due, dues, row};
 
+use crate::account::closing::Reckoning;
 use crate::account::{Account, Terms};
 use crate::class::ByClass;
 use crate::row::Row;
@@ -35,11 +36,9 @@ fn settle_one<P: PaymentRule>(pile: &P, year: u64, account: &Account, share: ByC
     ensures account { result.account ≡ account_after P.PaymentRule.pays year (due account.now share) }
     ensures row { result.row ≡ row P.PaymentRule.pays year (due account.now share) }
 {
-    let award = account.terms.award_in_force(year);
-    let taken = account.ledger.taken(award);
-    let total = account.ledger.total(award, taken, share);
-    let payment = payment_of(pile, year, &account.terms, total);
-    let ledger = account.ledger.closed(award, taken, share, payment);
+    let reckoning = Reckoning::of(account, year, share);
+    let payment = payment_of(pile, year, &account.terms, reckoning.total());
+    let ledger = reckoning.closed(payment);
     Settled {
         account: Account {
             terms: account.terms.closed(),
@@ -48,9 +47,9 @@ fn settle_one<P: PaymentRule>(pile: &P, year: u64, account: &Account, share: ByC
         },
         row: Row {
             asset: account.asset,
-            award,
-            taken,
-            share,
+            award: reckoning.award,
+            taken: reckoning.taken,
+            share: reckoning.share,
             payment,
             balance: ledger.balance(),
         },
