@@ -7,7 +7,6 @@ ghost use Rattle.book.specs.Find.{Found};
 ghost use Rattle.book.specs.Limits.{entries_most};
 ghost use Rattle.book.specs.Outcome.{Added, outcome};
 
-use crate::account::Account;
 use crate::book::Book;
 use crate::limits::{ASSET_MOST, ENTRY_MOST, off};
 use crate::refusal::Refusal;
@@ -21,11 +20,7 @@ impl<R: Seats<N>, P: PaymentRule, const N: usize> Book<R, P, N> {
         requires { (Found spot.account.asset self.old.accounts.items spot) × (EitherWay entries_most cents) }
         ensures cases { Added (view self.old) spot.account.asset cents result (view self.new) }
     {
-        let ledger = spot.account.ledger.added(cents)?;
-        let account = Account {
-            ledger,
-            ..spot.account
-        };
+        let account = spot.added(cents)?;
         self.put(spot.place, account, self.pools);
         Ok(())
     }

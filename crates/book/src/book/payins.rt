@@ -7,8 +7,8 @@ ghost use Rattle.book.specs.Close.{above_zero};
 ghost use Rattle.book.specs.Find.{Found};
 ghost use Rattle.book.specs.Outcome.{outcome};
 
-use crate::account::Terms;
 use crate::account::carried::settled;
+use crate::account::{Account, Terms};
 use crate::book::Book;
 use crate::limits::{ASSET_MOST, ENTRY_MOST, off};
 use crate::refusal::Refusal;
@@ -22,10 +22,11 @@ impl<R: Seats<N>, P: PaymentRule, const N: usize> Book<R, P, N> {
         requires { (Found spot.account.asset self.old.accounts.items spot) × ((RangedTerms terms) × ((cents ≤ above_zero (neg_ℤ (balance spot.account.ledger))) × (cents ≤ 4000000000))) }
         ensures after { view self.new ≡ paid spot.account.asset cents (on_terms (λ _. terms)) (view self.old) }
     {
-        let mut account = spot.account;
-        let pools = self.pools.plus(settled(cents, account.ledger.charges));
-        account.terms = terms;
-        account.ledger = account.ledger.credited(cents);
+        let pools = self.pools.plus(settled(cents, spot.account.ledger.charges));
+        let account = Account {
+            terms,
+            ..spot.credited(cents)
+        };
         self.put(spot.place, account, pools);
     }
 
@@ -37,7 +38,7 @@ impl<R: Seats<N>, P: PaymentRule, const N: usize> Book<R, P, N> {
             return Err(Refusal::OutOfRange);
         }
         let spot = self.locate(asset)?;
-        if spot.account.ledger.owes_less(cents) {
+        if spot.owes_less(cents) {
             return Err(Refusal::NotOwed);
         }
         self.credit(spot, spot.account.terms, cents);

@@ -16,20 +16,19 @@ put-requires g c =
     let xs = vec_items b.accounts in
     let spot = c.args.spot in
     let found = c.requires.0 in
-    let ledger : c.in_ok-ledger.ledger ≡ adding c.args.cents spot.account.ledger = search rules in
+    let account : c.in_ok-account.account ≡ on_ledger (adding c.args.cents) spot.account = search rules in
     let within : off_way entries_most (spot.account.ledger.entries +ℤ c.args.cents) ≡ false = search rules in (
       search rules,
       (
         found.within,
-        subst (λ l. Kept g.row.N b.closes b.pools (set xs spot.place (on_ledger (λ _. l) spot.account)))
-            (sym ledger)
+        subst (λ a. Kept g.row.N b.closes b.pools (set xs spot.place a)) (sym account)
             (kept_adding g.row.N b.closes b.pools xs spot.account.asset c.args.cents spot (kept_by b) found
             (not_off entries_most (spot.account.ledger.entries +ℤ c.args.cents) within)),
       ),
     )
 
-pub returns-in_err-ledger : goal.returns-in_err-ledger
-returns-in_err-ledger g c =
+pub returns-in_err-account : goal.returns-in_err-account
+returns-in_err-account g c =
     let spot = c.args.spot in
     let past : off_way entries_most (spot.account.ledger.entries +ℤ c.args.cents) ≡ true = search rules in
     let refused : c.from_residual.result ≡ Err PastLimit = search rules in

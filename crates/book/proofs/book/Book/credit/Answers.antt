@@ -24,14 +24,14 @@ put-requires g c =
     let xs = vec_items b.accounts in
     let spot = c.args.spot in
     let found = c.requires.0 in
-    let ledger : c.credited-account.result ≡ credited c.args.cents spot.account.ledger = search rules in
+    let account : c.credited.result ≡ on_ledger (credited c.args.cents) spot.account = search rules in
     let pooled : c.plus-pools.result ≡ plus b.pools (settled c.args.cents spot.account.ledger.charges) = search rules in (
       search rules,
       (
         found.within,
-        subst (λ pools. Kept g.row.N b.closes pools (set xs spot.place (on_terms (λ _. c.args.terms) (on_ledger (λ _. c.credited-account.result) spot.account)))) (sym pooled)
-            (subst (λ l. Kept g.row.N b.closes (plus b.pools (settled c.args.cents spot.account.ledger.charges)) (set xs spot.place (on_terms (λ _. c.args.terms) (on_ledger (λ _. l) spot.account)))) (sym ledger)
-            (kept_crediting g.row.N b.closes b.pools xs c.args.spot.account.asset c.args.cents c.args.terms spot (kept_by b) found c.requires.1.0 c.requires.1.1.0)),
+        subst (λ pools. Kept g.row.N b.closes pools (set xs spot.place (on_terms (λ _. c.args.terms) c.credited.result))) (sym pooled)
+            (subst (λ a. Kept g.row.N b.closes (plus b.pools (settled c.args.cents spot.account.ledger.charges)) (set xs spot.place (on_terms (λ _. c.args.terms) a))) (sym account)
+            (kept_crediting g.row.N b.closes b.pools xs spot.account.asset c.args.cents c.args.terms spot (kept_by b) found c.requires.1.0 c.requires.1.1.0)),
       ),
     )
 
@@ -39,12 +39,12 @@ pub returns : goal.returns
 returns g c =
     let b = c.args.self.now in
     let spot = c.args.spot in
-    let ledger : c.credited-account.result ≡ credited c.args.cents spot.account.ledger = search rules in
+    let account : c.credited.result ≡ on_ledger (credited c.args.cents) spot.account = search rules in
     let pooled : c.plus-pools.result ≡ plus b.pools (settled c.args.cents spot.account.ledger.charges) = search rules in
     record {
       after =
           c.put.ensures.after
-          ∙ paid_at (view b) c.args.spot.account.asset c.args.cents c.args.terms spot c.plus-pools.result
-          (on_terms (λ _. c.args.terms) (on_ledger (λ _. c.credited-account.result) spot.account)) c.requires.0
-          (ap (λ l. on_terms (λ _. c.args.terms) (on_ledger (λ _. l) spot.account)) ledger) pooled;
+          ∙ paid_at (view b) spot.account.asset c.args.cents c.args.terms spot c.plus-pools.result
+          (on_terms (λ _. c.args.terms) c.credited.result) c.requires.0
+          (ap (on_terms (λ _. c.args.terms)) account) pooled;
     }
