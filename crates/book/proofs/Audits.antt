@@ -14,7 +14,6 @@ use Rattle.book.specs.declared.class.Class.{Class}
 use Rattle.book.specs.declared.class.Class.TheVariants.{Availability, Delivery}
 use Rattle.book.specs.declared.row.Row.{Row}
 use Rattle.book.proofs.Balances.{balance-adding, balance-charging, balance-claiming, balance_closed, balance-credited}
-use Rattle.book.proofs.Lookups.{cond_same}
 
 -- a year has no term before it comes
 no_later : (a : ℕ) (h : History) (y : ℕ) → year_of h < y → term_award a y h ≡ pos 0
@@ -31,7 +30,7 @@ no_later a (refused call n ∷ h) y later = no_later a h y later
 
 -- what is in force is the award of the term of that year
 pub award_link : (a : ℕ) (h : History) (y : ℕ) → year_of h ≤ y → award_in_force y (terms_of a h) ≡ term_award a y h
-award_link a [] y now = cond_same (eqb 0 y) (pos 0)
+award_link a [] y now = refl
 award_link a (opening b holder ∷ h) y now = award_link a h y now
 award_link a (renewal b award commitment is_ready sum ∷ h) y now =
     elim (eqb b a) as (λ t. award_in_force y (cond t (renewed (year_of h) award commitment is_ready (terms_of a h)) (terms_of a h)) ≡ cond (t && eqb (year_of h) y) award (term_award a y h))

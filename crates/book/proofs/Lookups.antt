@@ -1,12 +1,12 @@
 -- What an asset's account becomes. Assumes nothing.
-use Rattle.std.proofs.Common.{◌≡◌, ℕ, suc, ◌+◌, ◌≤◌, Bool, true, false, cond, ◌||◌, eqb, List, [], ◌∷◌, map, get_or, drop, ℤ, pos, ◌+ℤ◌, ◌-ℤ◌, sum_by, sym, refl, ap, ◌∙◌, subst, ⊎_elim, one-add, arith}
+use Rattle.std.proofs.Common.{◌≡◌, ℕ, suc, ◌+◌, ◌≤◌, Bool, true, false, cond, ◌||◌, eqb, List, [], ◌∷◌, map, get_or, drop, ℤ, sum_by, sym, refl, ap, ◌∙◌, subst, ⊎_elim, one-add, arith}
 use Rattle.std.proofs.lemmas.List.{get_or-drop}
 use Rattle.std.proofs.lemmas.List.Sums.{sum_by-cons}
 use Rattle.std.proofs.lemmas.Bool.{cases_Bool, eq-eqb, eqb-false, eqb-true, false≢true, ne_eqb}
 use Rattle.payment.specs.Stand.{Stand}
-use Rattle.book.specs.Account.{award_in_force, balance, ledger_of}
+use Rattle.book.specs.Account.{award_in_force, balance}
 use Rattle.book.specs.Accounts.{account, at, change, charge, claim, listed}
-use Rattle.book.specs.Class.{by_class, none, of}
+use Rattle.book.specs.Class.{by_class, of}
 use Rattle.book.specs.Close.{account_after, closed_ledger, closed_terms, due, dues, row, taken, total_of}
 use Rattle.book.specs.History.{its_row}
 use Rattle.book.specs.declared.account.Account.{Account}
@@ -77,7 +77,7 @@ module _ (pays : Stand → ℤ → ℤ) (year : ℕ) (a : ℕ) where
 
   pub ledger_closed : (xs : List Account) (d e : List ℕ) → (account a (map (account_after pays year) (dues xs d e))).ledger
       ≡ by_row year (account a xs) (its_row a (map (row pays year) (dues xs d e)))
-  ledger_closed [] d e = ap (λ z. ledger_of (pos 0 +ℤ pos 0 +ℤ z -ℤ pos 0 +ℤ pos 0 -ℤ pos 0) (pos 0) none none) (sym (cond_same (eqb 0 year) (pos 0)))
+  ledger_closed [] d e = refl
   ledger_closed (x ∷ xs) d e =
       let this = due x (by_class (get_or d 0 0) (get_or e 0 0)) in
       let rest = account a (map (account_after pays year) (dues xs (drop 1 d) (drop 1 e))) in

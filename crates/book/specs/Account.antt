@@ -2,12 +2,13 @@
 --   opened               a new account
 --   balance              the carried balance: general balance, month's entries and claims, less charges owed
 --   owes_less            whether a sum is more than what is owed, or nothing is owed
+--   given_in             whether the last term is of that year
 --   award_in_force       the award of the last term in its own year, 0 in any other
 --   commitment_in_force  likewise
 --   standing             what a payment rule sees
 --   Ranged closes a      the figures of the account keep their ranges
 -- Assumes nothing.
-use Rattle.std.specs.Prelude.{ℕ, ◌≤◌, Bool, cond, not, ◌||◌, ℤ, pos, ◌+ℤ◌, ◌-ℤ◌, neg_ℤ, ◌≤ℤ◌, ◌==◌, int_lt, nat_lt, unsigned_abs}
+use Rattle.std.specs.Prelude.{ℕ, ◌≤◌, Bool, false, cond, not, ◌||◌, ℤ, pos, ◌+ℤ◌, ◌-ℤ◌, neg_ℤ, ◌≤ℤ◌, Some, None, Option, ◌==◌, int_lt, nat_lt, unsigned_abs}
 use Rattle.payment.specs.Stand.{Stand, stand, award_most, cap_base_most, commitment_most}
 use Rattle.payment.specs.declared.mark.Mark.{Mark}
 use Rattle.payment.specs.declared.mark.Mark.TheVariants.{NotReady}
@@ -21,7 +22,7 @@ use Rattle.book.specs.declared.class.ByClass.{ByClass}
 abbrev pub account_of : ℕ → ℕ → Terms → Ledger → Account
 account_of asset holder terms ledger = record { asset = asset; holder = holder; terms = terms; ledger = ledger }
 
-abbrev pub terms_of : ℤ → ℕ → ℕ → ℤ → Mark → Terms
+abbrev pub terms_of : ℤ → ℕ → Option ℕ → ℤ → Mark → Terms
 terms_of award commitment year cap_base mark =
     record { award = award; commitment = commitment; year = year; cap_base = cap_base; mark = mark }
 
@@ -29,7 +30,7 @@ abbrev pub ledger_of : ℤ → ℤ → ByClass → ByClass → Ledger
 ledger_of general entries claims charges = record { general = general; entries = entries; claims = claims; charges = charges }
 
 abbrev pub opened : ℕ → ℕ → Account
-opened asset holder = account_of asset holder (terms_of (pos 0) 0 0 (pos 0) NotReady) (ledger_of (pos 0) (pos 0) none none)
+opened asset holder = account_of asset holder (terms_of (pos 0) 0 None (pos 0) NotReady) (ledger_of (pos 0) (pos 0) none none)
 
 abbrev pub balance : Ledger → ℤ
 balance l = l.general +ℤ l.entries +ℤ pos (both l.claims) -ℤ pos (both l.charges)
@@ -37,11 +38,18 @@ balance l = l.general +ℤ l.entries +ℤ pos (both l.claims) -ℤ pos (both l.c
 abbrev pub owes_less : Ledger → ℕ → Bool
 owes_less l cents = not (int_lt (balance l) (pos 0)) || nat_lt (unsigned_abs (balance l)) cents
 
+abbrev is_of : ℕ → Option ℕ → Bool
+is_of year None = false
+is_of year (Some last) = last == year
+
+abbrev pub given_in : ℕ → Terms → Bool
+given_in year t = is_of year t.year
+
 abbrev pub award_in_force : ℕ → Terms → ℤ
-award_in_force year t = cond (t.year == year) t.award (pos 0)
+award_in_force year t = cond (given_in year t) t.award (pos 0)
 
 abbrev pub commitment_in_force : ℕ → Terms → ℕ
-commitment_in_force year t = cond (t.year == year) t.commitment 0
+commitment_in_force year t = cond (given_in year t) t.commitment 0
 
 abbrev pub standing : ℕ → Terms → Stand
 standing year t = stand (award_in_force year t) t.cap_base (commitment_in_force year t) t.mark

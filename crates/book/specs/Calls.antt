@@ -10,7 +10,7 @@ use Rattle.payment.specs.Mark.{mark_number}
 use Rattle.payment.specs.Stand.{Stand, award_most, commitment_most}
 use Rattle.payment.specs.declared.mark.Mark.TheVariants.{ReadyNext}
 use Rattle.sharing.specs.Rule.{most_cents}
-use Rattle.book.specs.Account.{account_of, balance, commitment_in_force, opened, owes_less, terms_of}
+use Rattle.book.specs.Account.{account_of, balance, commitment_in_force, given_in, opened, owes_less, terms_of}
 use Rattle.book.specs.Accounts.{account, change, charged, claimed, listed}
 use Rattle.book.specs.Class.{of, plus}
 use Rattle.book.specs.Close.{closed_state, residues, rows}
@@ -86,7 +86,7 @@ grounds serves s (list asset holder) =
     (off asset_most asset || off holder_most holder, 4) ∷ (listed asset s.accounts, 6) ∷ (nat_le serves (length s.accounts), 7) ∷ []
 grounds serves s (term asset award commitment is_ready) =
     (off asset_most asset || (off_way award_most award || nat_lt commitment_most commitment), 4) ∷ (unlisted s asset, 8) ∷ (not (month s == 1), 9)
-    ∷ (((account asset s.accounts).terms.year == year s), 10) ∷ (int_lt (carried s asset) balance_least, 12) ∷ []
+    ∷ (given_in (year s) (account asset s.accounts).terms, 10) ∷ (int_lt (carried s asset) balance_least, 12) ∷ []
 grounds serves s (entry kind asset cents) = entry_grounds s kind asset cents
 grounds serves s (ready asset) =
     (off asset_most asset, 4) ∷ (unlisted s asset, 8) ∷ (not (mark_number (account asset s.accounts).terms.mark == 0), 15) ∷ []

@@ -5,7 +5,7 @@
 --   renewed         the terms after a term is given
 --   claiming, charging, adding   a ledger with an over, an under, an uplift or a resolution
 -- Assumes nothing.
-use Rattle.std.specs.Prelude.{ℕ, ◌-◌, ◌*◌, ◌/◌, min, Bool, cond, ◌&&◌, ℤ, pos, ◌+ℤ◌, ◌-ℤ◌, int_lt, nat_lt, unsigned_abs}
+use Rattle.std.specs.Prelude.{ℕ, ◌-◌, ◌*◌, ◌/◌, min, Bool, cond, ◌&&◌, ℤ, pos, ◌+ℤ◌, ◌-ℤ◌, Some, int_lt, nat_lt, unsigned_abs}
 use Rattle.std.specs.Int.{int_max}
 use Rattle.payment.specs.declared.mark.Mark.TheVariants.{Ready}
 use Rattle.book.specs.Account.{ledger_of, terms_of}
@@ -31,7 +31,7 @@ invoice last award carried =
 
 abbrev pub renewed : ℕ → ℤ → ℕ → Bool → Terms → Terms
 renewed year award commitment ready t =
-    terms_of award commitment year
+    terms_of award commitment (Some year)
     (cond (nat_lt 0 commitment) (int_max (pos 0) award) (int_max t.cap_base award))
     (cond ready Ready t.mark)
 

@@ -19,10 +19,10 @@ pub struct Account {
 // What an asset's standing comes from.
 #[derive(Clone, Copy)]
 pub struct Terms {
-    // of the last term: its award in cents, its commitment in kilowatts, and its year, 0 where there was none
+    // of the last term: its award in cents and its commitment in kilowatts, both 0 where there was none, and its year
     pub award: i64,
     pub commitment: u64,
-    pub year: u64,
+    pub year: Option<u64>,
     // half of what the asset may be paid at a close, in cents
     pub cap_base: i64,
     pub mark: Mark,

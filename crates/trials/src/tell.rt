@@ -95,7 +95,7 @@ pub fn print_terms(rt: &HostRuntime, act: &Act, holder: u64, terms: &Terms) -> i
         "  {act}: holder {holder}, award {}, kw {}, year {}, cap base {}, mark {}",
         terms.award,
         terms.commitment,
-        terms.year,
+        terms.year.unwrap_or(0),
         terms.cap_base,
         terms.mark.number()
     )

@@ -1,22 +1,29 @@
 // What is in force of an account's terms, and a new term.
 ghost use Rattle.std.specs.Prelude.{◌≡◌};
-ghost use Rattle.book.specs.Account.{award_in_force, commitment_in_force};
+ghost use Rattle.book.specs.Account.{award_in_force, commitment_in_force, given_in};
 ghost use Rattle.book.specs.Entries.{renewed};
 
 use crate::account::Terms;
 use payment::Mark;
 
 impl Terms {
+    // Whether the last term is of this year.
+    pub(crate) fn given_in(&self, year: u64) -> bool
+        ensures value { result ≡ given_in year self.now }
+    {
+        self.year == Some(year)
+    }
+
     pub(crate) fn award_in_force(&self, year: u64) -> i64
         ensures value { result ≡ award_in_force year self.now }
     {
-        if self.year == year { self.award } else { 0 }
+        if self.given_in(year) { self.award } else { 0 }
     }
 
     pub(crate) fn commitment_in_force(&self, year: u64) -> u64
         ensures value { result ≡ commitment_in_force year self.now }
     {
-        if self.year == year {
+        if self.given_in(year) {
             self.commitment
         } else {
             0
@@ -30,7 +37,7 @@ impl Terms {
         Terms {
             award,
             commitment,
-            year,
+            year: Some(year),
             cap_base: if commitment > 0 {
                 award.max(0)
             } else {

@@ -17,7 +17,7 @@ impl Account {
             terms: Terms {
                 award: 0,
                 commitment: 0,
-                year: 0,
+                year: None,
                 cap_base: 0,
                 mark: Mark::NotReady,
             },

@@ -30,7 +30,7 @@ impl<R: Seats<N>, P: PaymentRule, const N: usize> Book<R, P, N> {
         }
         let year = self.year();
         let terms = spot.account.terms;
-        if terms.year == year {
+        if terms.given_in(year) {
             return Err(Refusal::TermGiven);
         }
         let carried = spot.account.ledger.balance();
