@@ -31,7 +31,7 @@ pub(crate) struct Located {
 
 impl Spot {
     // Whether a sum is more than what is owed, or nothing is owed.
-    pub fn owes_less(&self, cents: u64) -> bool
+    pub(crate) fn owes_less(&self, cents: u64) -> bool
         ensures value { result ≡ owes_less self.now.account.ledger cents }
     {
         let carried = self.account.ledger.balance();
@@ -39,7 +39,7 @@ impl Spot {
     }
 
     // The account with more or less in the month's entries, where they keep their limit.
-    pub fn added(&self, cents: i64) -> Result<Account, Refusal>
+    pub(crate) fn added(&self, cents: i64) -> Result<Account, Refusal>
         requires { EitherWay entries_most cents }
         ensures cases { MatchResult result (λ a. (off_way entries_most (self.now.account.ledger.entries +ℤ cents) ≡ false) × (a ≡ on_ledger (adding cents) self.now.account)) (λ why. (why ≡ PastLimit) × (off_way entries_most (self.now.account.ledger.entries +ℤ cents) ≡ true)) }
     {
@@ -58,7 +58,7 @@ impl Spot {
     }
 
     // The account with a sum paid in: it lowers charges, and the rest raises the general balance.
-    pub fn credited(&self, cents: u64) -> Account
+    pub(crate) fn credited(&self, cents: u64) -> Account
         requires { cents ≤ 4000000000 }
         ensures value { result ≡ on_ledger (credited cents) self.now.account }
     {
