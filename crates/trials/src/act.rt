@@ -41,62 +41,29 @@ fn ready_word(ready: bool) -> &'static str {
     if ready { "ready" } else { "unready" }
 }
 
-fn one<W: fmt::Write>(f: &mut fmt::Formatter<W>, word: &str, n: u64) -> fmt::Result {
-    write!(f, "{word} {n}")
-}
-
-fn two<W: fmt::Write>(f: &mut fmt::Formatter<W>, word: &str, n: u64, m: u64) -> fmt::Result {
-    write!(f, "{word} {n} {m}")
-}
-
-fn signed<W: fmt::Write>(
-    f: &mut fmt::Formatter<W>,
-    word: &str,
-    asset: u64,
-    cents: i64,
-) -> fmt::Result {
-    write!(f, "{word} {asset} {cents}")
-}
-
-fn classed<W: fmt::Write>(
-    f: &mut fmt::Formatter<W>,
-    word: &str,
-    class: Class,
-    asset: u64,
-    cents: u64,
-) -> fmt::Result {
-    let class = class_word(class);
-    write!(f, "{word} {class} {asset} {cents}")
-}
-
-fn term<W: fmt::Write>(
-    f: &mut fmt::Formatter<W>,
-    asset: u64,
-    award: i64,
-    kw: u64,
-    ready: bool,
-) -> fmt::Result {
-    let ready = ready_word(ready);
-    write!(f, "term {asset} {award} {kw} {ready}")
-}
-
 impl fmt::Display for Act {
     fn fmt<W: fmt::Write>(&self, f: &mut fmt::Formatter<W>) -> fmt::Result {
         match *self {
             Act::Part(words) => f.write_str(words),
-            Act::List(asset, holder) => two(f, "list", asset, holder),
-            Act::ListTo(last) => one(f, "list to", last),
-            Act::Term(asset, award, kw, ready) => term(f, asset, award, kw, ready),
-            Act::Over(class, asset, cents) => classed(f, "over", class, asset, cents),
-            Act::Under(class, asset, cents) => classed(f, "under", class, asset, cents),
-            Act::Uplift(asset, cents) => two(f, "uplift", asset, cents),
-            Act::Resolve(asset, cents) => signed(f, "resolve", asset, cents),
-            Act::ResolveTwice(asset, cents) => signed(f, "resolve twice", asset, cents),
-            Act::Payin(asset, cents) => two(f, "payin", asset, cents),
-            Act::Ready(asset) => one(f, "ready", asset),
-            Act::Close(rows) => one(f, "close", rows as u64),
-            Act::Months(times) => one(f, "months", times),
-            Act::Look(asset) => one(f, "look", asset),
+            Act::List(asset, holder) => write!(f, "list {asset} {holder}"),
+            Act::ListTo(last) => write!(f, "list to {last}"),
+            Act::Term(asset, award, kw, ready) => {
+                write!(f, "term {asset} {award} {kw} {}", ready_word(ready))
+            }
+            Act::Over(class, asset, cents) => {
+                write!(f, "over {} {asset} {cents}", class_word(class))
+            }
+            Act::Under(class, asset, cents) => {
+                write!(f, "under {} {asset} {cents}", class_word(class))
+            }
+            Act::Uplift(asset, cents) => write!(f, "uplift {asset} {cents}"),
+            Act::Resolve(asset, cents) => write!(f, "resolve {asset} {cents}"),
+            Act::ResolveTwice(asset, cents) => write!(f, "resolve twice {asset} {cents}"),
+            Act::Payin(asset, cents) => write!(f, "payin {asset} {cents}"),
+            Act::Ready(asset) => write!(f, "ready {asset}"),
+            Act::Close(rows) => write!(f, "close {rows}"),
+            Act::Months(times) => write!(f, "months {times}"),
+            Act::Look(asset) => write!(f, "look {asset}"),
             Act::Pools => f.write_str("pools"),
         }
     }

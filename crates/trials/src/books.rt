@@ -1,49 +1,30 @@
 // The books that the tables are played on.
-use crate::act::Act;
 use crate::halved::Halved;
 use crate::last_first::LastFirst;
-use crate::play::play;
 use book::Book;
 use payment::{Cap, Over, StandardPile, Whole, standard_pile};
 use sharing::{ByRank, ProRata};
+use std::alloc::AllocError;
 
-pub fn on_pro_rata(rt: &HostRuntime, heading: &str, acts: &[Act]) -> anyhow::Result<()> {
-    let mut book: Book<ProRata, StandardPile, 64> = Book::open(
-        rt.alloc(),
-        ProRata,
-        standard_pile(),
-    )?;
-    play(rt, &mut book, heading, acts)?;
-    Ok(())
+pub fn pro_rata(rt: &HostRuntime) -> Result<Book<ProRata, StandardPile, 64>, AllocError> {
+    Book::open(rt.alloc(), ProRata, standard_pile())
 }
 
-pub fn on_by_rank(rt: &HostRuntime, heading: &str, acts: &[Act]) -> anyhow::Result<()> {
-    let mut book: Book<ByRank, StandardPile, 64> = Book::open(rt.alloc(), ByRank, standard_pile())?;
-    play(rt, &mut book, heading, acts)?;
-    Ok(())
+pub fn by_rank(rt: &HostRuntime) -> Result<Book<ByRank, StandardPile, 64>, AllocError> {
+    Book::open(rt.alloc(), ByRank, standard_pile())
 }
 
 // A pile that neither floors nor withholds.
-pub fn on_capped(rt: &HostRuntime, heading: &str, acts: &[Act]) -> anyhow::Result<()> {
-    let mut book: Book<ByRank, Over<Cap, Whole>, 64> = Book::open(
-        rt.alloc(),
-        ByRank,
-        Over::new(Cap, Whole),
-    )?;
-    play(rt, &mut book, heading, acts)?;
-    Ok(())
+pub fn capped(rt: &HostRuntime) -> Result<Book<ByRank, Over<Cap, Whole>, 64>, AllocError> {
+    Book::open(rt.alloc(), ByRank, Over::new(Cap, Whole))
 }
 
 // A pile of no layer.
-pub fn on_unlayered(rt: &HostRuntime, heading: &str, acts: &[Act]) -> anyhow::Result<()> {
-    let mut book: Book<ProRata, Whole, 64> = Book::open(rt.alloc(), ProRata, Whole)?;
-    play(rt, &mut book, heading, acts)?;
-    Ok(())
+pub fn unlayered(rt: &HostRuntime) -> Result<Book<ProRata, Whole, 64>, AllocError> {
+    Book::open(rt.alloc(), ProRata, Whole)
 }
 
 // A rule and a pile that the libraries know nothing of.
-pub fn on_own(rt: &HostRuntime, heading: &str, acts: &[Act]) -> anyhow::Result<()> {
-    let mut book: Book<LastFirst, Halved, 3> = Book::open(rt.alloc(), LastFirst, Halved)?;
-    play(rt, &mut book, heading, acts)?;
-    Ok(())
+pub fn own(rt: &HostRuntime) -> Result<Book<LastFirst, Halved, 3>, AllocError> {
+    Book::open(rt.alloc(), LastFirst, Halved)
 }

@@ -1,6 +1,7 @@
 // Invoices, and what they are credited to.
 use crate::act::Act;
-use crate::books::on_pro_rata;
+use crate::books::pro_rata;
+use crate::play::play;
 use book::Class;
 
 const SUMS: [Act; 27] = [
@@ -90,7 +91,12 @@ const YEARS_APART: [Act; 6] = [
 ];
 
 pub fn play_invoices(rt: &HostRuntime) -> anyhow::Result<()> {
-    on_pro_rata(rt, "invoices", &SUMS)?;
-    on_pro_rata(rt, "a year before invoices", &CREDITS)?;
-    on_pro_rata(rt, "a year without a term between", &YEARS_APART)
+    play(rt, pro_rata(rt)?, "invoices", &SUMS)?;
+    play(rt, pro_rata(rt)?, "a year before invoices", &CREDITS)?;
+    play(
+        rt,
+        pro_rata(rt)?,
+        "a year without a term between",
+        &YEARS_APART,
+    )
 }

@@ -1,6 +1,7 @@
 // Limits that are reached exactly, and passed by one cent.
 use crate::act::Act;
-use crate::books::on_pro_rata;
+use crate::books::pro_rata;
+use crate::play::play;
 use book::Class;
 
 // Charges and open pool count together.
@@ -106,7 +107,7 @@ const BALANCES: [Act; 16] = [
 ];
 
 pub fn play_limits(rt: &HostRuntime) -> anyhow::Result<()> {
-    on_pro_rata(rt, "class totals", &TOTALS)?;
-    on_pro_rata(rt, "the month's entries", &ENTRIES)?;
-    on_pro_rata(rt, "balances at a term", &BALANCES)
+    play(rt, pro_rata(rt)?, "class totals", &TOTALS)?;
+    play(rt, pro_rata(rt)?, "the month's entries", &ENTRIES)?;
+    play(rt, pro_rata(rt)?, "balances at a term", &BALANCES)
 }

@@ -1,6 +1,7 @@
 // A book of a sharing rule and a pile that the libraries know nothing of.
 use crate::act::Act;
-use crate::books::on_own;
+use crate::books::own;
+use crate::play::play;
 use book::Class;
 
 const THREE_SEATS: [Act; 17] = [
@@ -24,8 +25,9 @@ const THREE_SEATS: [Act; 17] = [
 ];
 
 pub fn play_own(rt: &HostRuntime) -> anyhow::Result<()> {
-    on_own(
+    play(
         rt,
+        own(rt)?,
         "a rule of three seats and a pile that pays half",
         &THREE_SEATS,
     )

@@ -1,6 +1,7 @@
 // Sums paid in, up to exactly what is owed.
 use crate::act::Act;
-use crate::books::on_pro_rata;
+use crate::books::pro_rata;
+use crate::play::play;
 use book::Class;
 
 const PAYINS: [Act; 20] = [
@@ -27,5 +28,5 @@ const PAYINS: [Act; 20] = [
 ];
 
 pub fn play_payins(rt: &HostRuntime) -> anyhow::Result<()> {
-    on_pro_rata(rt, "payins", &PAYINS)
+    play(rt, pro_rata(rt)?, "payins", &PAYINS)
 }

@@ -1,6 +1,7 @@
 // What is paid of a total, and what is carried.
 use crate::act::Act;
-use crate::books::{on_capped, on_pro_rata, on_unlayered};
+use crate::books::{capped, pro_rata, unlayered};
+use crate::play::play;
 use book::Class;
 
 const CAP_AND_FLOOR: [Act; 11] = [
@@ -62,9 +63,9 @@ const OTHER_PILES: [Act; 6] = [
 ];
 
 pub fn play_payments(rt: &HostRuntime) -> anyhow::Result<()> {
-    on_pro_rata(rt, "cap and floor", &CAP_AND_FLOOR)?;
-    on_pro_rata(rt, "withheld until ready", &WITHHELD)?;
-    on_pro_rata(rt, "large sums", &LARGE_SUMS)?;
-    on_capped(rt, "a pile of a cap alone", &OTHER_PILES)?;
-    on_unlayered(rt, "a pile without a layer", &OTHER_PILES)
+    play(rt, pro_rata(rt)?, "cap and floor", &CAP_AND_FLOOR)?;
+    play(rt, pro_rata(rt)?, "withheld until ready", &WITHHELD)?;
+    play(rt, pro_rata(rt)?, "large sums", &LARGE_SUMS)?;
+    play(rt, capped(rt)?, "a pile of a cap alone", &OTHER_PILES)?;
+    play(rt, unlayered(rt)?, "a pile without a layer", &OTHER_PILES)
 }

@@ -1,6 +1,7 @@
 // Empty and full books, and row lists of any length.
 use crate::act::Act;
-use crate::books::{on_by_rank, on_pro_rata};
+use crate::books::{by_rank, pro_rata};
+use crate::play::play;
 use book::Class;
 
 const FEW: [Act; 7] = [
@@ -33,6 +34,6 @@ const FULL: [Act; 16] = [
 ];
 
 pub fn play_places(rt: &HostRuntime) -> anyhow::Result<()> {
-    on_pro_rata(rt, "an empty book and row lists", &FEW)?;
-    on_by_rank(rt, "a full book", &FULL)
+    play(rt, pro_rata(rt)?, "an empty book and row lists", &FEW)?;
+    play(rt, by_rank(rt)?, "a full book", &FULL)
 }

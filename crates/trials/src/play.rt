@@ -61,13 +61,8 @@ fn close_times<R: Seats<N>, P: PaymentRule, const N: usize>(
     act: &Act,
     times: u64,
 ) -> io::Result<()> {
-    let mut taken = 0u64;
-    for _ in 0..times {
-        let mut rows = [BLANK; ROWS];
-        if book.close(&mut rows).is_ok() {
-            taken = taken.saturating_add(1);
-        }
-    }
+    let mut rows = [BLANK; ROWS];
+    let taken = (0..times).filter(|_| book.close(&mut rows).is_ok()).count();
     println!(rt; "  {act}: taken {taken}")
 }
 
@@ -78,12 +73,9 @@ fn list_to<R: Seats<N>, P: PaymentRule, const N: usize>(
     act: &Act,
     last: u64,
 ) -> io::Result<()> {
-    let mut taken = 0u64;
-    for asset in 0..last {
-        if book.list(asset.saturating_add(1), 1).is_ok() {
-            taken = taken.saturating_add(1);
-        }
-    }
+    let taken = (1..=last)
+        .filter(|asset| book.list(*asset, 1).is_ok())
+        .count();
     println!(rt; "  {act}: taken {taken}")
 }
 
@@ -113,16 +105,16 @@ fn play_one<R: Seats<N>, P: PaymentRule, const N: usize>(
     }
 }
 
-// Plays a table of acts under its heading.
-pub fn play<R: Seats<N>, P: PaymentRule, const N: usize>(
+// Plays a table of acts on a book, under its heading.
+pub fn play<R: Seats<N> + Drop, P: PaymentRule + Drop, const N: usize>(
     rt: &HostRuntime,
-    book: &mut Book<R, P, N>,
+    mut book: Book<R, P, N>,
     heading: &str,
     acts: &[Act],
-) -> io::Result<()> {
+) -> anyhow::Result<()> {
     println!(rt; "{heading}")?;
     for act in acts {
-        play_one(rt, book, act)?;
+        play_one(rt, &mut book, act)?;
     }
     Ok(())
 }

@@ -1,6 +1,7 @@
 // Values at the ends of their ranges, and one past each end.
 use crate::act::Act;
-use crate::books::on_pro_rata;
+use crate::books::pro_rata;
+use crate::play::play;
 use book::Class;
 
 const ENDS: [Act; 70] = [
@@ -77,5 +78,5 @@ const ENDS: [Act; 70] = [
 ];
 
 pub fn play_ranges(rt: &HostRuntime) -> anyhow::Result<()> {
-    on_pro_rata(rt, "assets and holders", &ENDS)
+    play(rt, pro_rata(rt)?, "assets and holders", &ENDS)
 }

@@ -1,6 +1,7 @@
 // What closes take of charges, and how they share it.
 use crate::act::Act;
-use crate::books::{on_by_rank, on_pro_rata};
+use crate::books::{by_rank, pro_rata};
+use crate::play::play;
 use book::Class;
 
 const CLAIMS: [Act; 17] = [
@@ -66,9 +67,9 @@ const DELIVERY_FIRST: [Act; 11] = [
 ];
 
 pub fn play_shares(rt: &HostRuntime) -> anyhow::Result<()> {
-    on_pro_rata(rt, "claims pro rata", &CLAIMS)?;
-    on_by_rank(rt, "claims by rank", &CLAIMS)?;
-    on_pro_rata(rt, "a claim beside a charge", &SET_OFF)?;
-    on_by_rank(rt, "a negative award", &NEGATIVE_AWARD)?;
-    on_pro_rata(rt, "delivery first", &DELIVERY_FIRST)
+    play(rt, pro_rata(rt)?, "claims pro rata", &CLAIMS)?;
+    play(rt, by_rank(rt)?, "claims by rank", &CLAIMS)?;
+    play(rt, pro_rata(rt)?, "a claim beside a charge", &SET_OFF)?;
+    play(rt, by_rank(rt)?, "a negative award", &NEGATIVE_AWARD)?;
+    play(rt, pro_rata(rt)?, "delivery first", &DELIVERY_FIRST)
 }

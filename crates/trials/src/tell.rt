@@ -3,33 +3,15 @@ use crate::act::Act;
 use book::{ByClass, Closed, Ledger, Refusal, Row, Terms};
 use std::io;
 
-const NONE: ByClass = ByClass {
-    delivery: 0,
-    availability: 0,
-};
-
 // What a row list holds before a close.
 pub const BLANK: Row = Row {
     asset: 0,
     award: 0,
-    taken: NONE,
-    share: NONE,
+    taken: ByClass::NONE,
+    share: ByClass::NONE,
     payment: 7,
     balance: 7,
 };
-
-fn is_blank(row: &Row) -> bool {
-    row.asset == 0
-        && row.award == 0
-        && is_none(row.taken)
-        && is_none(row.share)
-        && row.payment == 7
-        && row.balance == 7
-}
-
-fn is_none(pair: ByClass) -> bool {
-    pair.delivery == 0 && pair.availability == 0
-}
 
 pub fn refused(rt: &HostRuntime, act: &Act, why: Refusal) -> io::Result<()> {
     println!(rt; "  {act}: refused by {}", why.number())
@@ -65,14 +47,12 @@ fn print_row(rt: &HostRuntime, row: &Row) -> io::Result<()> {
 
 // The rows that a close wrote, and how many it left alone.
 pub fn print_rows(rt: &HostRuntime, rows: &[Row]) -> io::Result<()> {
-    let mut alone = 0usize;
     for row in rows {
-        if is_blank(row) {
-            alone = alone.saturating_add(1);
-        } else {
+        if *row != BLANK {
             print_row(rt, row)?;
         }
     }
+    let alone = rows.iter().filter(|row| **row == BLANK).count();
     println!(rt; "    rows left alone {alone}")
 }
 

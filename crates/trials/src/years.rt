@@ -1,6 +1,7 @@
 // What changes from year to year, and the end of all periods.
 use crate::act::Act;
-use crate::books::on_pro_rata;
+use crate::books::pro_rata;
+use crate::play::play;
 use book::Class;
 
 const CAP_BASE: [Act; 25] = [
@@ -79,7 +80,7 @@ const LAST_PERIODS: [Act; 27] = [
 ];
 
 pub fn play_years(rt: &HostRuntime) -> anyhow::Result<()> {
-    on_pro_rata(rt, "the cap base", &CAP_BASE)?;
-    on_pro_rata(rt, "listed late", &LISTED_LATE)?;
-    on_pro_rata(rt, "the last periods", &LAST_PERIODS)
+    play(rt, pro_rata(rt)?, "the cap base", &CAP_BASE)?;
+    play(rt, pro_rata(rt)?, "listed late", &LISTED_LATE)?;
+    play(rt, pro_rata(rt)?, "the last periods", &LAST_PERIODS)
 }
