@@ -19,7 +19,7 @@ use sharing::{Seats, SharingRule};
 
 // Shares a pool that the rule takes.
 fn share_among<R: SharingRule>(rule: &R, pool: u64, claims: &[u64], into: &mut [u64])
-    requires { Shareable R.SharingRule.serves pool claims.now (length into.old) }
+    requires { Shareable R.SERVES pool claims.now (length into.old) }
     ensures after { into.new ≡ R.SharingRule.shares pool claims.now }
 {
     rule.share(pool, claims, into).unwrap();
