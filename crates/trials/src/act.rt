@@ -2,7 +2,7 @@
 use book::Class;
 use std::fmt;
 
-#[derive(Clone, Copy)]
+#[derive(Clone, Copy, Debug, PartialEq, Eq)]
 pub enum Act {
     // what the acts below it show
     Part(&'static str),

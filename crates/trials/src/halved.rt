@@ -5,7 +5,7 @@ ghost use Rattle.std.proofs.Common.{rules};
 
 use payment::{PaymentRule, Standing};
 
-#[derive(Clone, Copy)]
+#[derive(Clone, Copy, Debug, PartialEq, Eq)]
 pub struct Halved;
 
 impl PaymentRule for Halved {

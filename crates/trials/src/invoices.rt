@@ -1,7 +1,6 @@
 // Invoices, and what they are credited to.
 use crate::act::Act;
 use crate::books::pro_rata;
-use crate::play::play;
 use book::Class;
 
 const SUMS: [Act; 27] = [
@@ -91,12 +90,7 @@ const YEARS_APART: [Act; 6] = [
 ];
 
 pub fn play_invoices(rt: &HostRuntime) -> anyhow::Result<()> {
-    play(rt, pro_rata(rt)?, "invoices", &SUMS)?;
-    play(rt, pro_rata(rt)?, "a year before invoices", &CREDITS)?;
-    play(
-        rt,
-        pro_rata(rt)?,
-        "a year without a term between",
-        &YEARS_APART,
-    )
+    pro_rata(rt)?.play("invoices", &SUMS)?;
+    pro_rata(rt)?.play("a year before invoices", &CREDITS)?;
+    pro_rata(rt)?.play("a year without a term between", &YEARS_APART)
 }

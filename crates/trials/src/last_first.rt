@@ -7,7 +7,7 @@ ghost use Rattle.std.proofs.Common.{rules};
 
 use sharing::{MOST_CENTS, Refusal, Seats, SharingRule};
 
-#[derive(Clone, Copy)]
+#[derive(Clone, Copy, Debug, PartialEq, Eq)]
 pub struct LastFirst;
 
 // What the claims come to, and one cent more than the limit where they pass it.
@@ -36,7 +36,7 @@ fn meet(pool: u64, sum: u64, claims: &[u64], into: &mut [u64])
 impl SharingRule for LastFirst {
     const SERVES: usize = 3;
 
-    ghost serves = { 3 };
+    ghost SERVES = { 3 };
 
     ghost shares = { last_first };
 
@@ -47,10 +47,6 @@ impl SharingRule for LastFirst {
     ghost within = { Lasts.within };
 
     ghost whole = { Lasts.whole };
-
-    fn served() -> usize {
-        Self::SERVES
-    }
 
     fn share(&self, pool: u64, claims: &[u64], into: &mut [u64]) -> Result<(), Refusal> {
         let sum = total(claims);

@@ -1,7 +1,6 @@
 // Limits that are reached exactly, and passed by one cent.
 use crate::act::Act;
 use crate::books::pro_rata;
-use crate::play::play;
 use book::Class;
 
 // Charges and open pool count together.
@@ -107,7 +106,7 @@ const BALANCES: [Act; 16] = [
 ];
 
 pub fn play_limits(rt: &HostRuntime) -> anyhow::Result<()> {
-    play(rt, pro_rata(rt)?, "class totals", &TOTALS)?;
-    play(rt, pro_rata(rt)?, "the month's entries", &ENTRIES)?;
-    play(rt, pro_rata(rt)?, "balances at a term", &BALANCES)
+    pro_rata(rt)?.play("class totals", &TOTALS)?;
+    pro_rata(rt)?.play("the month's entries", &ENTRIES)?;
+    pro_rata(rt)?.play("balances at a term", &BALANCES)
 }

@@ -1,7 +1,6 @@
 // Calls on which several grounds of refusal hold: the lowest number is named.
 use crate::act::Act;
 use crate::books::pro_rata;
-use crate::play::play;
 use book::Class;
 
 // Where several grounds hold, they stand beside the act. Asset 9 is not listed before the end, and no asset has a term at first.
@@ -66,10 +65,5 @@ const GROUNDS: [Act; 56] = [
 ];
 
 pub fn play_order(rt: &HostRuntime) -> anyhow::Result<()> {
-    play(
-        rt,
-        pro_rata(rt)?,
-        "several grounds, before a term",
-        &GROUNDS,
-    )
+    pro_rata(rt)?.play("several grounds, before a term", &GROUNDS)
 }

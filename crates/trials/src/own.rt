@@ -1,7 +1,6 @@
 // A book of a sharing rule and a pile that the libraries know nothing of.
 use crate::act::Act;
 use crate::books::own;
-use crate::play::play;
 use book::Class;
 
 const THREE_SEATS: [Act; 17] = [
@@ -25,9 +24,7 @@ const THREE_SEATS: [Act; 17] = [
 ];
 
 pub fn play_own(rt: &HostRuntime) -> anyhow::Result<()> {
-    play(
-        rt,
-        own(rt)?,
+    own(rt)?.play(
         "a rule of three seats and a pile that pays half",
         &THREE_SEATS,
     )

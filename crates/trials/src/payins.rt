@@ -1,7 +1,6 @@
 // Sums paid in, up to exactly what is owed.
 use crate::act::Act;
 use crate::books::pro_rata;
-use crate::play::play;
 use book::Class;
 
 const PAYINS: [Act; 20] = [
@@ -28,5 +27,5 @@ const PAYINS: [Act; 20] = [
 ];
 
 pub fn play_payins(rt: &HostRuntime) -> anyhow::Result<()> {
-    play(rt, pro_rata(rt)?, "payins", &PAYINS)
+    pro_rata(rt)?.play("payins", &PAYINS)
 }

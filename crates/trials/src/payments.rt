@@ -1,7 +1,6 @@
 // What is paid of a total, and what is carried.
 use crate::act::Act;
 use crate::books::{capped, pro_rata, unlayered};
-use crate::play::play;
 use book::Class;
 
 const CAP_AND_FLOOR: [Act; 11] = [
@@ -63,9 +62,9 @@ const OTHER_PILES: [Act; 6] = [
 ];
 
 pub fn play_payments(rt: &HostRuntime) -> anyhow::Result<()> {
-    play(rt, pro_rata(rt)?, "cap and floor", &CAP_AND_FLOOR)?;
-    play(rt, pro_rata(rt)?, "withheld until ready", &WITHHELD)?;
-    play(rt, pro_rata(rt)?, "large sums", &LARGE_SUMS)?;
-    play(rt, capped(rt)?, "a pile of a cap alone", &OTHER_PILES)?;
-    play(rt, unlayered(rt)?, "a pile without a layer", &OTHER_PILES)
+    pro_rata(rt)?.play("cap and floor", &CAP_AND_FLOOR)?;
+    pro_rata(rt)?.play("withheld until ready", &WITHHELD)?;
+    pro_rata(rt)?.play("large sums", &LARGE_SUMS)?;
+    capped(rt)?.play("a pile of a cap alone", &OTHER_PILES)?;
+    unlayered(rt)?.play("a pile without a layer", &OTHER_PILES)
 }

@@ -1,7 +1,6 @@
 // Empty and full books, and row lists of any length.
 use crate::act::Act;
 use crate::books::{by_rank, pro_rata};
-use crate::play::play;
 use book::Class;
 
 const FEW: [Act; 7] = [
@@ -34,6 +33,6 @@ const FULL: [Act; 16] = [
 ];
 
 pub fn play_places(rt: &HostRuntime) -> anyhow::Result<()> {
-    play(rt, pro_rata(rt)?, "an empty book and row lists", &FEW)?;
-    play(rt, by_rank(rt)?, "a full book", &FULL)
+    pro_rata(rt)?.play("an empty book and row lists", &FEW)?;
+    by_rank(rt)?.play("a full book", &FULL)
 }

@@ -1,7 +1,7 @@
 // Resolutions, posted to a book.
 use crate::act::Act;
+use crate::play::Player;
 use crate::tell::refused;
-use book::Book;
 use dispute::{Filed, Resolution};
 use payment::PaymentRule;
 use sharing::Seats;
@@ -14,78 +14,55 @@ fn resolution_of(asset: u64, cents: i64) -> Option<Resolution> {
     };
     match filed.offer(cents, 100) {
         Ok(served) => Some(served.accept(130).unwrap()),
-        Err(back) => {
-            let (filed, _) = back;
+        Err((filed, _)) => {
             filed.withdraw();
             None
         }
     }
 }
 
-// Posts a resolution, or notes it where it is handed back.
-fn post<R: Seats<N>, P: PaymentRule, const N: usize>(
-    rt: &HostRuntime,
-    book: &mut Book<R, P, N>,
-    act: &Act,
-    resolution: Resolution,
-) -> io::Result<()> {
-    match book.resolve(resolution) {
-        Ok(()) => println!(rt; "  {act}: taken"),
-        Err(back) => {
-            let (resolution, why) = back;
-            let note = resolution.note();
-            println!(rt;
-                "  {act}: refused by {}, noted {} {}",
-                why.number(),
-                note.asset,
-                note.cents
-            )
+impl<'a, R: Seats<N>, P: PaymentRule, const N: usize> Player<'a, R, P, N> {
+    // Posts a resolution, or notes it where it is handed back.
+    fn post(&mut self, act: &Act, resolution: Resolution) -> io::Result<()> {
+        match self.book.resolve(resolution) {
+            Ok(()) => println!(self.rt; "  {act}: taken"),
+            Err((resolution, why)) => {
+                let note = resolution.note();
+                println!(self.rt;
+                    "  {act}: refused by {}, noted {} {}",
+                    why.number(),
+                    note.asset,
+                    note.cents
+                )
+            }
         }
     }
-}
 
-pub fn resolve<R: Seats<N>, P: PaymentRule, const N: usize>(
-    rt: &HostRuntime,
-    book: &mut Book<R, P, N>,
-    act: &Act,
-    asset: u64,
-    cents: i64,
-) -> io::Result<()> {
-    match resolution_of(asset, cents) {
-        Some(resolution) => post(rt, book, act, resolution),
-        None => println!(rt; "  {act}: no resolution"),
+    pub fn resolve(&mut self, act: &Act, asset: u64, cents: i64) -> io::Result<()> {
+        match resolution_of(asset, cents) {
+            Some(resolution) => self.post(act, resolution),
+            None => println!(self.rt; "  {act}: no resolution"),
+        }
     }
-}
 
-// Lists the asset of a resolution that was handed back, and posts it again.
-fn post_again<R: Seats<N>, P: PaymentRule, const N: usize>(
-    rt: &HostRuntime,
-    book: &mut Book<R, P, N>,
-    act: &Act,
-    resolution: Resolution,
-) -> io::Result<()> {
-    let _ = book.list(resolution.asset(), 1);
-    post(rt, book, act, resolution)
-}
+    // Lists the asset of a resolution that was handed back, and posts it again.
+    fn post_again(&mut self, act: &Act, resolution: Resolution) -> io::Result<()> {
+        let _ = self.book.list(resolution.asset(), 1);
+        self.post(act, resolution)
+    }
 
-pub fn resolve_twice<R: Seats<N>, P: PaymentRule, const N: usize>(
-    rt: &HostRuntime,
-    book: &mut Book<R, P, N>,
-    act: &Act,
-    asset: u64,
-    cents: i64,
-) -> io::Result<()> {
-    let Some(resolution) = resolution_of(asset, cents) else {
-        return println!(rt; "  {act}: no resolution");
-    };
-    match book.resolve(resolution) {
-        Ok(()) => println!(rt; "  {act}: taken at once"),
-        Err(back) => {
-            let (resolution, why) = back;
-            // the resolution has to be spent before a failure to print ends this call
-            let printed = refused(rt, act, why);
-            post_again(rt, book, act, resolution)?;
-            printed
+    pub fn resolve_twice(&mut self, act: &Act, asset: u64, cents: i64) -> io::Result<()> {
+        let Some(resolution) = resolution_of(asset, cents) else {
+            return println!(self.rt; "  {act}: no resolution");
+        };
+        match self.book.resolve(resolution) {
+            Ok(()) => println!(self.rt; "  {act}: taken at once"),
+            Err((resolution, why)) => {
+                // the resolution has to be spent before a failure to print ends this call
+                let printed = refused(self.rt, act, why);
+                self.post_again(act, resolution)?;
+                printed
+            }
         }
     }
 }

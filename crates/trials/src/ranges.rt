@@ -1,7 +1,6 @@
 // Values at the ends of their ranges, and one past each end.
 use crate::act::Act;
 use crate::books::pro_rata;
-use crate::play::play;
 use book::Class;
 
 const ENDS: [Act; 70] = [
@@ -78,5 +77,5 @@ const ENDS: [Act; 70] = [
 ];
 
 pub fn play_ranges(rt: &HostRuntime) -> anyhow::Result<()> {
-    play(rt, pro_rata(rt)?, "assets and holders", &ENDS)
+    pro_rata(rt)?.play("assets and holders", &ENDS)
 }

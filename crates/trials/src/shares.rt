@@ -1,7 +1,6 @@
 // What closes take of charges, and how they share it.
 use crate::act::Act;
 use crate::books::{by_rank, pro_rata};
-use crate::play::play;
 use book::Class;
 
 const CLAIMS: [Act; 17] = [
@@ -67,9 +66,9 @@ const DELIVERY_FIRST: [Act; 11] = [
 ];
 
 pub fn play_shares(rt: &HostRuntime) -> anyhow::Result<()> {
-    play(rt, pro_rata(rt)?, "claims pro rata", &CLAIMS)?;
-    play(rt, by_rank(rt)?, "claims by rank", &CLAIMS)?;
-    play(rt, pro_rata(rt)?, "a claim beside a charge", &SET_OFF)?;
-    play(rt, by_rank(rt)?, "a negative award", &NEGATIVE_AWARD)?;
-    play(rt, pro_rata(rt)?, "delivery first", &DELIVERY_FIRST)
+    pro_rata(rt)?.play("claims pro rata", &CLAIMS)?;
+    by_rank(rt)?.play("claims by rank", &CLAIMS)?;
+    pro_rata(rt)?.play("a claim beside a charge", &SET_OFF)?;
+    by_rank(rt)?.play("a negative award", &NEGATIVE_AWARD)?;
+    pro_rata(rt)?.play("delivery first", &DELIVERY_FIRST)
 }

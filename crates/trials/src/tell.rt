@@ -77,7 +77,7 @@ pub fn print_terms(rt: &HostRuntime, act: &Act, holder: u64, terms: &Terms) -> i
         terms.commitment,
         terms.year.unwrap_or(0),
         terms.cap_base,
-        terms.mark.number()
+        u64::from(terms.mark)
     )
 }
 

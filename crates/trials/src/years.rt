@@ -1,7 +1,6 @@
 // What changes from year to year, and the end of all periods.
 use crate::act::Act;
 use crate::books::pro_rata;
-use crate::play::play;
 use book::Class;
 
 const CAP_BASE: [Act; 25] = [
@@ -80,7 +79,7 @@ const LAST_PERIODS: [Act; 27] = [
 ];
 
 pub fn play_years(rt: &HostRuntime) -> anyhow::Result<()> {
-    play(rt, pro_rata(rt)?, "the cap base", &CAP_BASE)?;
-    play(rt, pro_rata(rt)?, "listed late", &LISTED_LATE)?;
-    play(rt, pro_rata(rt)?, "the last periods", &LAST_PERIODS)
+    pro_rata(rt)?.play("the cap base", &CAP_BASE)?;
+    pro_rata(rt)?.play("listed late", &LISTED_LATE)?;
+    pro_rata(rt)?.play("the last periods", &LAST_PERIODS)
 }
