@@ -17,7 +17,7 @@ use payment::PaymentRule;
 use sharing::{MOST_CENTS, Seats};
 
 impl<R: Seats<N>, P: PaymentRule, const N: usize> Book<R, P, N> {
-    // Why an over or an under is refused, else the spot that it goes to: of the asset's place, and what its class comes to without it.
+    // Where an over or an under goes, or why it is refused. The total is what its class comes to without it.
     fn adjustable(
         &self,
         class: Class,
