@@ -1,24 +1,12 @@
 use Rattle.std.proofs.Common.{◌+◌, sym, ap, ◌∙◌, subst, arith, MatchOption}
 use Rattle.std.proofs.lemmas.List.{take_all}
-use Rattle.std.proofs.lemmas.List.Sums.{sum_by_more, sum_by-take-le}
+use Rattle.std.proofs.lemmas.List.Sums.{sum_by_more}
 use Rattle.book.specs.Account.{opened}
 use Rattle.std.specs.Option.{option_or}
 use Rattle.book.specs.Find.{FoundAt}
 use Rattle.book.specs.Accounts.{at, charge, charged, claim, claimed}
 use Rattle.book.proofs.Places.{Before, found_all, found_more}
 use Rattle.book.proofs.find.find_with_totals.Goals as goal
-
-pub overflow_add-claims : goal.overflow_add-claims
-overflow_add-claims c =
-    let f = claim c.args.class in
-    let xs = c.args.accounts.now in
-    record { fits = omega (arith, c.of-claims.ensures.value, sum_by_more f xs c.loop-i.i (opened 0 0) c.loop-i-test.true, sum_by-take-le f xs (c.loop-i.i + 1)) }
-
-pub overflow_add-charges : goal.overflow_add-charges
-overflow_add-charges c =
-    let f = charge c.args.class in
-    let xs = c.args.accounts.now in
-    record { fits = omega (arith, c.of-charges.ensures.value, sum_by_more f xs c.loop-i.i (opened 0 0) c.loop-i-test.true, sum_by-take-le f xs (c.loop-i.i + 1)) }
 
 pub loop-i-preserved : goal.loop-i-preserved
 loop-i-preserved c =

@@ -1,17 +1,11 @@
-use Rattle.std.proofs.Common.{◌+◌, ◌≤◌, set, vec_items, sym, subst, arith, rules}
+use Rattle.std.proofs.Common.{◌+◌, ◌≤◌, set, vec_items, sym, subst, rules}
 use Rattle.sharing.specs.Rule.{most_cents}
 use Rattle.book.specs.Account.{ledger_of}
-use Rattle.book.specs.Accounts.{claim, claimed}
+use Rattle.book.specs.Accounts.{claimed}
 use Rattle.book.specs.Calls.{on_ledger}
 use Rattle.book.specs.Kept.{Kept}
-use Rattle.book.proofs.Sound.{kept_by, kept_claiming, spot_within}
+use Rattle.book.proofs.Sound.{kept_by, kept_claiming}
 use Rattle.book.proofs.book.Book.over.Goals as goal
-
-pub more-account-requires : goal.more-account-requires
-more-account-requires g c =
-    let xs = vec_items c.args.self.now.accounts in
-    let room : claimed c.args.class xs + c.args.cents ≤ most_cents = search rules in
-    omega (arith, spot_within (claim c.args.class) xs c.args.asset c.in_ok-spot.spot c.in_ok-spot.ensures.value)
 
 pub put-requires : goal.put-requires
 put-requires g c =

@@ -1,19 +1,12 @@
-use Rattle.std.proofs.Common.{◌+◌, ◌≤◌, set, vec_items, sym, subst, arith, rules}
+use Rattle.std.proofs.Common.{◌+◌, ◌≤◌, set, vec_items, sym, subst, rules}
 use Rattle.sharing.specs.Rule.{most_cents}
 use Rattle.book.specs.Account.{ledger_of}
-use Rattle.book.specs.Accounts.{charge, charged}
+use Rattle.book.specs.Accounts.{charged}
 use Rattle.book.specs.Class.{of}
 use Rattle.book.specs.Calls.{on_ledger}
 use Rattle.book.specs.Kept.{Kept}
-use Rattle.book.proofs.Sound.{kept_by, kept_charging, spot_within}
+use Rattle.book.proofs.Sound.{kept_by, kept_charging}
 use Rattle.book.proofs.book.Book.under.Goals as goal
-
-pub more-account-requires : goal.more-account-requires
-more-account-requires g c =
-    let b = c.args.self.now in
-    let xs = vec_items b.accounts in
-    let room : charged c.args.class xs + of c.args.class b.pools + c.args.cents ≤ most_cents = search rules in
-    omega (arith, spot_within (charge c.args.class) xs c.args.asset c.in_ok-spot.spot c.in_ok-spot.ensures.value)
 
 pub put-requires : goal.put-requires
 put-requires g c =
