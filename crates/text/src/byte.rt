@@ -2,7 +2,7 @@
 ghost use Rattle.std.specs.Prelude.{◌≡◌};
 ghost use Rattle.text.specs.Bytes.{sort};
 
-#[derive(Clone, Copy, PartialEq)]
+#[derive(Clone, Copy, Debug, PartialEq, Eq)]
 pub(crate) enum Sort {
     Open,
     Close,
@@ -13,14 +13,16 @@ pub(crate) enum Sort {
     Foreign,
 }
 
-pub(crate) fn sort_of(b: u8) -> Sort
-    ensures value { result ≡ sort b }
-{
-    match char::from(b) {
-        '(' => Sort::Open,
-        ')' => Sort::Close,
-        ' ' => Sort::Blank,
-        'a'..='z' | '0'..='9' | '-' => Sort::Part,
-        _ => Sort::Foreign,
+impl From<u8> for Sort {
+    ghost from_gives = { λ b s. s ≡ sort b };
+
+    fn from(b: u8) -> Sort {
+        match char::from(b) {
+            '(' => Sort::Open,
+            ')' => Sort::Close,
+            ' ' => Sort::Blank,
+            'a'..='z' | '0'..='9' | '-' => Sort::Part,
+            _ => Sort::Foreign,
+        }
     }
 }

@@ -5,7 +5,7 @@ ghost use Rattle.text.specs.Next.{Given, Proper, Sound, told};
 ghost use Rattle.text.specs.Tokens.{placed, run_symbol, tokens};
 ghost use Rattle.text.specs.declared.byte.Sort.TheVariants.{Blank};
 
-use crate::byte::{Sort, sort_of};
+use crate::byte::Sort;
 use crate::fault::TextFault;
 use crate::run::{is_numeral, is_word};
 use crate::token::{Lexeme, Next, Token};
@@ -18,7 +18,7 @@ fn span(bytes: &[u8], from: usize, sort: Sort) -> usize
     ensures stops { result < length bytes.now → sort_at bytes.now result ≢ sort }
 {
     for i in from..bytes.len() {
-        if sort_of(bytes[i]) != sort {
+        if Sort::from(bytes[i]) != sort {
             return i;
         }
     }
@@ -45,7 +45,7 @@ fn lexeme(bytes: &[u8], at: usize) -> Lexeme<'_>
     ensures proper { IfSome result.token Proper }
     ensures bound { (at < result.end) × (result.end ≤ length bytes.now) }
 {
-    match sort_of(bytes[at]) {
+    match Sort::from(bytes[at]) {
         Sort::Open => Lexeme {
             token: Some(Token::Open),
             end: at + 1,

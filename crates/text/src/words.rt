@@ -1,40 +1,25 @@
 // The words of the forms.
 ghost use Rattle.std.specs.Prelude.{◌≡◌};
-ghost use Rattle.std.specs.Str.{bytes_eq};
-ghost use Rattle.text.specs.Forms.{class_named, field_word, fields, fits, is_value, named};
+ghost use Rattle.text.specs.Forms.{class_named, field_word, fields, fits, named};
 ghost use Rattle.text.specs.Next.{symbol_of};
 
 use crate::form::{Field, Item, Verb};
 use crate::token::Token;
 use book::Class;
 
-pub(crate) fn same(a: &[u8], b: &[u8]) -> bool
-    ensures value { result ≡ bytes_eq a.now b.now }
-{
-    a == b
-}
-
 pub(crate) fn verb_named(word: &[u8]) -> Option<Verb>
     ensures value { result ≡ named word.now }
 {
-    if same(word, b"list") {
-        Some(Verb::List)
-    } else if same(word, b"term") {
-        Some(Verb::Term)
-    } else if same(word, b"over") {
-        Some(Verb::Over)
-    } else if same(word, b"under") {
-        Some(Verb::Under)
-    } else if same(word, b"uplift") {
-        Some(Verb::Uplift)
-    } else if same(word, b"payin") {
-        Some(Verb::Payin)
-    } else if same(word, b"ready") {
-        Some(Verb::Ready)
-    } else if same(word, b"close") {
-        Some(Verb::Close)
-    } else {
-        None
+    match word {
+        b"list" => Some(Verb::List),
+        b"term" => Some(Verb::Term),
+        b"over" => Some(Verb::Over),
+        b"under" => Some(Verb::Under),
+        b"uplift" => Some(Verb::Uplift),
+        b"payin" => Some(Verb::Payin),
+        b"ready" => Some(Verb::Ready),
+        b"close" => Some(Verb::Close),
+        _ => None,
     }
 }
 
@@ -68,27 +53,10 @@ pub(crate) fn fields_of(verb: Verb) -> &'static [Field]
 pub(crate) fn class_named(word: &[u8]) -> Option<Class>
     ensures value { result ≡ class_named word.now }
 {
-    if same(word, b"delivery") {
-        Some(Class::Delivery)
-    } else if same(word, b"availability") {
-        Some(Class::Availability)
-    } else {
-        None
-    }
-}
-
-fn is_value_of(field: Field, token: Token) -> bool
-    ensures value { result ≡ is_value field (symbol_of token.entry) }
-{
-    match field {
-        Field::Class => match token {
-            Token::Word(word) => class_named(word).is_some(),
-            _ => false,
-        },
-        _ => match token {
-            Token::Number(_) => true,
-            _ => false,
-        },
+    match word {
+        b"delivery" => Some(Class::Delivery),
+        b"availability" => Some(Class::Availability),
+        _ => None,
     }
 }
 
@@ -96,19 +64,12 @@ fn is_value_of(field: Field, token: Token) -> bool
 pub(crate) fn suits(item: Item, token: Token) -> bool
     ensures value { result ≡ fits item (symbol_of token.entry) }
 {
-    match item {
-        Item::Open => match token {
-            Token::Open => true,
-            _ => false,
-        },
-        Item::Name(field) => match token {
-            Token::Word(word) => same(word, field_word(field)),
-            _ => false,
-        },
-        Item::Value(field) => is_value_of(field, token),
-        Item::Close => match token {
-            Token::Close => true,
-            _ => false,
-        },
+    match (item, token) {
+        (Item::Open, Token::Open) | (Item::Close, Token::Close) => true,
+        (Item::Name(field), Token::Word(word)) => word == field_word(field),
+        (Item::Value(Field::Class), Token::Word(word)) => class_named(word).is_some(),
+        (Item::Value(Field::Class), _) => false,
+        (Item::Value(_), Token::Number(_)) => true,
+        _ => false,
     }
 }

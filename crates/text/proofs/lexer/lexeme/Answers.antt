@@ -9,7 +9,7 @@ use Rattle.text.proofs.lexer.lexeme.Goals as goal
 pub returns-in-Open : goal.returns-in-Open
 returns-in-Open c =
     record {
-      value = λ start. at_open start c.args.bytes.now c.args.at c.requires.0 (sym c.in-Open.ensures.value);
+      value = λ start. at_open start c.args.bytes.now c.args.at c.requires.0 (sym c.in-Open.ensures);
       proper = tt;
       bound = (omega arith, omega (arith, c.requires.0));
     }
@@ -17,7 +17,7 @@ returns-in-Open c =
 pub returns-in-Close : goal.returns-in-Close
 returns-in-Close c =
     record {
-      value = λ start. at_close start c.args.bytes.now c.args.at c.requires.0 (sym c.in-Close.ensures.value);
+      value = λ start. at_close start c.args.bytes.now c.args.at c.requires.0 (sym c.in-Close.ensures);
       proper = tt;
       bound = (omega arith, omega (arith, c.requires.0));
     }
@@ -27,7 +27,7 @@ returns-in-Part c =
     let bs = c.args.bytes.now in
     let at = c.args.at in
     let end = c.span-end.result in
-    let here : sort_at bs at ≡ Part = sym c.in-Part.ensures.value in
+    let here : sort_at bs at ≡ Part = sym c.in-Part.ensures in
     let bound = c.span-end.ensures.bound in
     let some : at < end =
     ⊎_elim (λ h. h)
@@ -43,7 +43,7 @@ returns-in-Part c =
 
 pub returns-in-Blank : goal.returns-in-Blank
 returns-in-Blank c =
-    let told = sym c.sort_of.ensures.value in
+    let told = sym c.from.ensures in
     record {
       value = λ start. ⊎_elim (λ e. absurd (c.requires.1 (told ∙ e))) (λ e. at_foreign start c.args.bytes.now c.args.at c.requires.0 (told ∙ e)) c.in-Blank.is;
       proper = tt;
