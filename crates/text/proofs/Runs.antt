@@ -1,23 +1,11 @@
 -- What a run is, one byte after the other.
 -- Assumes nothing.
-use Rattle.std.proofs.Common.{◌≡◌, ℕ, ◌+◌, ◌-◌, ◌*◌, ◌^◌, ◌<◌, ◌≤◌, true, false, not, ◌&&◌, eqb, List, length, get_or, drop, pos, neg_ℤ, sym, ap, ◌∙◌, pow-suc, add-one, arith, lit<}
+use Rattle.std.proofs.Common.{◌≡◌, ℕ, ◌+◌, ◌^◌, ◌<◌, ◌≤◌, true, not, ◌&&◌, eqb, List, length, get_or, drop, pos, neg_ℤ, sym, ◌∙◌, arith, lit<}
 use native.Mathlib.Nat.{pow-le-pow_right}
-use Rattle.std.proofs.lemmas.List.{at_drop_more, at_drop_all}
+use Rattle.std.proofs.lemmas.List.{at_drop_more}
 use Rattle.std.proofs.lemmas.Bool.{and_parts, cond-false, cond-true, eq-eqb, leb-true, ne_eqb}
 use Rattle.text.specs.Bytes.{within}
-use Rattle.text.specs.Tokens.{all_within, digits, magnitude, natural, numeral, read_on, value}
-
-pub all_more : (least most : ℕ) (bs : List ℕ) (i : ℕ) → i < length bs → within least most (get_or bs i 0) ≡ true
-    → all_within least most (drop (i + 1) bs) ≡ all_within least most (drop i bs)
-all_more least most bs i h e =
-    sym (ap (λ t. t && all_within least most (drop (i + 1) bs)) e) ∙ sym (at_drop_more (all_within least most) bs i 0 h)
-
-pub all_not : (least most : ℕ) (bs : List ℕ) (i : ℕ) → i < length bs → within least most (get_or bs i 0) ≡ false → false ≡ all_within least most (drop i bs)
-all_not least most bs i h e =
-    sym (ap (λ t. t && all_within least most (drop (i + 1) bs)) e) ∙ sym (at_drop_more (all_within least most) bs i 0 h)
-
-pub all_end : (least most : ℕ) (bs : List ℕ) (i : ℕ) → length bs ≤ i → true ≡ all_within least most (drop i bs)
-all_end least most bs i h = sym (at_drop_all (all_within least most) bs i h)
+use Rattle.text.specs.Tokens.{digits, magnitude, natural, numeral, value}
 
 -- the next of digits that are left, and what is left behind it
 pub next_digit : (bs : List ℕ) (i : ℕ) → i < length bs → digits (drop i bs) ≡ true
@@ -27,17 +15,8 @@ next_digit bs i h e = and_parts (within 48 57 (get_or bs i 0)) (digits (drop (i 
 pub digit_bounds : (b : ℕ) → within 48 57 b ≡ true → (48 ≤ b) × (b ≤ 57)
 digit_bounds b e = let p = and_parts _ _ e in (leb-true 48 b p.0, leb-true b 57 p.1)
 
-pub read_more : (n : ℕ) (bs : List ℕ) (i : ℕ) → i < length bs → read_on (n * 10 + (get_or bs i 0 - 48)) (drop (i + 1) bs) ≡ read_on n (drop i bs)
-read_more n bs i h = sym (at_drop_more (read_on n) bs i 0 h)
-
-pub read_end : (n : ℕ) (bs : List ℕ) (i : ℕ) → length bs ≤ i → n ≡ read_on n (drop i bs)
-read_end n bs i h = sym (at_drop_all (read_on n) bs i h)
-
 pub short : (n i k : ℕ) → n < 10 ^ i → i ≤ k → n < 10 ^ k
 short n i k h le = let up : 10 ^ i ≤ 10 ^ k = pow-le-pow_right (lit< tt) le in omega arith
-
-pub longer : (n i d : ℕ) → n < 10 ^ i → d ≤ 9 → n * 10 + d < 10 ^ (i + 1)
-longer n i d h small = let e : 10 ^ (i + 1) ≡ 10 ^ i * 10 = rw add-one (pow-suc 10 i) in omega arith
 
 pub natural_parts : (bs : List ℕ) → natural bs ≡ true → (1 ≤ length bs) × (length bs ≤ 15) × (digits bs ≡ true)
 natural_parts bs e =

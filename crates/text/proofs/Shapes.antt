@@ -68,7 +68,6 @@ field_read {bytes = bytes} {start = start} {from = from} {field = field} {bracke
       held = ap (λ ts. get_or ts 2 (placed 0 nothing)) four;
       rest = ap (drop 4) four;
       passed = λ is. met o (Name field ∷ Value field ∷ Closed ∷ is) ∙ met n (Value field ∷ Closed ∷ is) ∙ met v (Closed ∷ is) ∙ met c is;
-      proper = v.found.proper;
       near = v.found.near;
       within = c.found.within;
     }

@@ -1,14 +1,13 @@
 -- The next token of a part of a line.
 --   symbol_of        what a token of the code says
 --   told             the same, nothing where there is none
---   Proper           a number of the code is one
 --   Given            what is found where the tokens from a place on are these: nothing at the end, a fault where the first is
 --                    no token, else the first, with the place where the others go on
 --   first_nothing    the place of the first of some tokens that is none
 --   Sound            all are tokens, or the fault names the first that is none
 -- Assumes nothing.
-use Rattle.std.specs.Prelude.{◌≡◌, ℕ, ◌+◌, ◌<◌, ◌≤◌, true, List, [], ◌∷◌, length, drop, Some, None, Ok, Err, Option, Result}
-use Rattle.text.specs.Tokens.{Placed, Symbol, closing, nothing, number, numeral, opening, placed, tokens, worded}
+use Rattle.std.specs.Prelude.{◌≡◌, ℕ, ◌+◌, ◌<◌, ◌≤◌, List, [], ◌∷◌, length, drop, Some, None, Ok, Err, Option, Result}
+use Rattle.text.specs.Tokens.{Placed, Symbol, closing, nothing, number, opening, placed, tokens, worded}
 use Rattle.text.specs.declared.fault.TextFault.{TextFault}
 use Rattle.text.specs.declared.fault.TextFault.TheVariants.{NoToken}
 use Rattle.text.specs.declared.token.Next.{Next}
@@ -19,22 +18,15 @@ abbrev pub symbol_of : Token → Symbol
 symbol_of Open = opening
 symbol_of Close = closing
 symbol_of (Word t) = worded t.now
-symbol_of (Number t) = number t.now
+symbol_of (Number t) = number t.run.now
 
 abbrev pub told : Option Token → Symbol
 told None = nothing
 told (Some t) = symbol_of t
 
-abbrev pub Proper : Token → Type 0
-Proper Open = Unit {0}
-Proper Close = Unit {0}
-Proper (Word t) = Unit {0}
-Proper (Number t) = numeral t.now ≡ true
-
 -- the part begins at a place of its line, and is read from one of its bytes on
 pub record First (bytes : List ℕ) (start from : ℕ) (ts : List Placed) (next : Next) : Type 0 where
   pub first : ts ≡ placed next.place (symbol_of next.token) ∷ tokens (start + next.end) (drop next.end bytes)
-  pub proper : Proper next.token
   pub near : next.place < start + length bytes
   pub within : next.end ≤ length bytes
   pub onward : from < next.end

@@ -7,7 +7,7 @@
 -- Assumes nothing.
 use Rattle.std.specs.Prelude.{◌≡◌, ℕ, ◌+◌, ◌<◌, ◌≤◌, true, cond, List, [], ◌∷◌, length, drop, Some, None, Ok, Err, Option, Result, slice_index_or}
 use Rattle.text.specs.Forms.{fits, is_opening, verb_of, wanted_of}
-use Rattle.text.specs.Next.{First, Proper, symbol_of}
+use Rattle.text.specs.Next.{First, symbol_of}
 use Rattle.text.specs.Reading.{against, fault_at, form_in, fresh, gather}
 use Rattle.text.specs.Tokens.{Placed, nothing, placed, tokens}
 use Rattle.text.specs.declared.fault.FormFault.{FormFault}
@@ -49,7 +49,6 @@ pub record Read (bytes : List ℕ) (start from : ℕ) (field : Field) (next : Ne
   pub held : slice_index_or (from_on bytes start from) 2 (placed 0 nothing) ≡ placed next.place (symbol_of next.token)
   pub rest : drop 4 (from_on bytes start from) ≡ from_on bytes start next.end
   pub passed : (is : List Item) → against (end_of start bytes) (with_field field is) (from_on bytes start from) ≡ against (end_of start bytes) is (from_on bytes start next.end)
-  pub proper : Proper next.token
   pub near : next.place < start + length bytes
   pub within : next.end ≤ length bytes
 

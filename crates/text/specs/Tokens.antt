@@ -7,7 +7,8 @@
 --   Symbol     what a piece is: a bracket, a word or a number with its bytes, or nothing
 --   tokens     the pieces, each read as a symbol
 -- Assumes nothing.
-use Rattle.std.specs.Prelude.{ℕ, ◌+◌, ◌-◌, ◌*◌, Bool, true, cond, not, ◌&&◌, ◌||◌, List, [], ◌∷◌, map, length, drop, ℤ, pos, neg_ℤ, ◌==◌, nat_le, slice_index}
+use Rattle.std.specs.Prelude.{ℕ, ◌+◌, ◌-◌, ◌*◌, Bool, cond, not, ◌&&◌, ◌||◌, List, [], ◌∷◌, map, length, drop, ℤ, pos, neg_ℤ, ◌==◌, nat_le, slice_index}
+use Rattle.std.specs.List.{list_all}
 use Rattle.text.specs.Bytes.{part, sort, within}
 use Rattle.text.specs.declared.byte.Sort.{Sort}
 use Rattle.text.specs.declared.byte.Sort.TheVariants.{Blank, Close, Foreign, Open, Part}
@@ -37,8 +38,7 @@ pieces place [] = []
 pieces place (b ∷ bs) = joined_to (sort b) place b (pieces (place + 1) bs)
 
 abbrev pub all_within : ℕ → ℕ → List ℕ → Bool
-all_within least most [] = true
-all_within least most (b ∷ bs) = within least most b && all_within least most bs
+all_within least most bs = list_all (within least most) bs
 
 abbrev pub word : List ℕ → Bool
 word bs = nat_le 1 (length bs) && (nat_le (length bs) 12 && all_within 97 122 bs)

@@ -1,11 +1,10 @@
 // The values of the fields, each tested against its range.
 ghost use Rattle.std.specs.Prelude.{◌≡◌, ◌<◌, ◌&&◌, int_le};
-ghost use Rattle.text.specs.Next.{Proper, symbol_of};
+ghost use Rattle.text.specs.Next.{symbol_of};
 ghost use Rattle.text.specs.Reading.{formed, fresh, hold, hold_number, take_in};
 ghost use Rattle.text.specs.Tokens.{placed};
 
 use crate::form::{Draft, Field, Form, Gathered, Verb};
-use crate::run::value_of;
 use crate::token::{Next, Token};
 use crate::words::class_named;
 use book::{ASSET_MOST, Class, ENTRY_MOST, HOLDER_MOST};
@@ -79,7 +78,6 @@ fn hold_number_in(draft: Draft, field: Field, n: i64) -> Option<Draft>
 
 // The draft with a value in a field, if it is in the field's range.
 fn hold_in(draft: Draft, field: Field, token: Token) -> Option<Draft>
-    requires { Proper token }
     ensures value { result ≡ hold field (symbol_of token.entry) draft }
 {
     match token {
@@ -87,7 +85,7 @@ fn hold_in(draft: Draft, field: Field, token: Token) -> Option<Draft>
             Some(class) => Some(Draft { class, ..draft }),
             None => Some(draft),
         },
-        Token::Number(run) => hold_number_in(draft, field, value_of(run)),
+        Token::Number(number) => hold_number_in(draft, field, number.value()),
         Token::Open | Token::Close => Some(draft),
     }
 }
@@ -112,7 +110,7 @@ pub(crate) fn begun() -> Gathered
 
 // What is gathered with one more field.
 pub(crate) fn taken_in(gathered: Gathered, field: Field, next: Next) -> Gathered
-    requires { (Proper next.token) × (next.place < 300) }
+    requires { next.place < 300 }
     ensures value { result ≡ take_in field (placed next.entry.place (symbol_of next.entry.token)) gathered }
 {
     match hold_in(gathered.draft, field, next.token) {

@@ -1,13 +1,13 @@
 // Bytes to tokens.
-ghost use Rattle.std.specs.Prelude.{◌≡◌, ℕ, ◌+◌, ◌<◌, ◌≤◌, ◌∷◌, length, drop, IfSome, ◌≢◌};
+ghost use Rattle.std.specs.Prelude.{◌≡◌, ℕ, ◌+◌, ◌<◌, ◌≤◌, ◌∷◌, length, drop, ◌≢◌};
 ghost use Rattle.text.specs.Bytes.{sort_at};
-ghost use Rattle.text.specs.Next.{Given, Proper, Sound, told};
+ghost use Rattle.text.specs.Next.{Given, Sound, told};
 ghost use Rattle.text.specs.Tokens.{placed, run_symbol, tokens};
 ghost use Rattle.text.specs.declared.byte.Sort.TheVariants.{Blank};
 
 use crate::byte::Sort;
 use crate::fault::TextFault;
-use crate::run::{is_numeral, is_word};
+use crate::run::{Numeral, is_word};
 use crate::token::{Lexeme, Next, Token};
 
 // Where the bytes of a sort end, from a place on.
@@ -26,15 +26,12 @@ fn span(bytes: &[u8], from: usize, sort: Sort) -> usize
 }
 
 fn token_of(run: &[u8]) -> Option<Token<'_>>
-    ensures value { told result ≡ run_symbol run.now }
-    ensures proper { IfSome result Proper }
+    ensures { told result ≡ run_symbol run.now }
 {
     if is_word(run) {
         Some(Token::Word(run))
-    } else if is_numeral(run) {
-        Some(Token::Number(run))
     } else {
-        None
+        Numeral::new(run).map(Token::Number)
     }
 }
 
@@ -42,7 +39,6 @@ fn token_of(run: &[u8]) -> Option<Token<'_>>
 fn lexeme(bytes: &[u8], at: usize) -> Lexeme<'_>
     requires { (at < length bytes.now) × ((sort_at bytes.now at ≢ Blank)) }
     ensures value { (start : ℕ) → tokens (start + at) (drop at bytes.now) ≡ placed (start + at) (told result.token) ∷ tokens (start + result.end) (drop result.end bytes.now) }
-    ensures proper { IfSome result.token Proper }
     ensures bound { (at < result.end) × (result.end ≤ length bytes.now) }
 {
     match Sort::from(bytes[at]) {

@@ -1,49 +1,37 @@
 // What a run of letters, digits and minus signs is.
 ghost use Rattle.std.specs.Prelude.{◌≡◌, ◌≤◌, true, length};
-ghost use Rattle.text.specs.Bytes.{within};
-ghost use Rattle.text.specs.Tokens.{all_within, digits, magnitude, natural, numeral, value, word};
+ghost use Rattle.text.specs.Tokens.{all_within, digits, magnitude, natural, numeral, word};
 
-fn is_within(b: u8, least: u8, most: u8) -> bool
-    ensures value { result ≡ within least most b }
+fn all_letters(run: &[u8]) -> bool
+    ensures { result ≡ all_within 97 122 run.now }
 {
-    b >= least && b <= most
+    run.iter().all(u8::is_ascii_lowercase)
 }
 
-// Whether all bytes lie between two.
-fn all_within(run: &[u8], least: u8, most: u8) -> bool
-    ensures value { result ≡ all_within least most run.now }
+fn all_digits(run: &[u8]) -> bool
+    ensures { result ≡ digits run.now }
 {
-    for b in run {
-        if !is_within(*b, least, most) {
-            return false;
-        }
-    }
-    true
+    run.iter().all(u8::is_ascii_digit)
 }
 
 pub(crate) fn is_word(run: &[u8]) -> bool
     ensures value { result ≡ word run.now }
 {
-    run.len() >= 1 && run.len() <= 12 && all_within(run, b'a', b'z')
+    (1..=12).contains(&run.len()) && all_letters(run)
 }
 
 fn is_natural(run: &[u8]) -> bool
     ensures value { result ≡ natural run.now }
 {
-    run.len() >= 1
-        && run.len() <= 15
-        && all_within(run, b'0', b'9')
-        && (run.len() == 1 || run[0] != b'0')
+    (1..=15).contains(&run.len()) && all_digits(run) && (run.len() == 1 || run[0] != b'0')
 }
 
-pub(crate) fn is_numeral(run: &[u8]) -> bool
+fn is_numeral(run: &[u8]) -> bool
     ensures value { result ≡ numeral run.now }
 {
-    if run.len() >= 1 && run[0] == b'-' {
-        let rest = &run[1..];
-        is_natural(rest) && rest[0] != b'0'
-    } else {
-        is_natural(run)
+    match run {
+        [b'-', digits @ ..] => is_natural(digits) && digits[0] != b'0',
+        _ => is_natural(run),
     }
 }
 
@@ -60,14 +48,34 @@ fn magnitude_of(run: &[u8]) -> u64
     n
 }
 
-// What a number says.
-pub(crate) fn value_of(run: &[u8]) -> i64
-    requires { numeral run.now ≡ true }
-    ensures value { result ≡ value run.now }
-{
-    if run.len() >= 1 && run[0] == b'-' {
-        -(magnitude_of(&run[1..]) as i64)
-    } else {
-        magnitude_of(run) as i64
+// A run that is a number.
+#[derive(Clone, Copy, Debug, PartialEq, Eq)]
+pub(crate) struct Numeral<'a> {
+    run: &'a [u8],
+    ghost valid: { numeral run.now ≡ true },
+}
+
+impl<'a> Numeral<'a> {
+    ghost use Rattle.std.specs.Prelude.{false, MatchOption};
+    ghost use Rattle.text.specs.Tokens.{value};
+
+    pub fn new(run: &'a [u8]) -> Option<Numeral<'a>>
+        ensures { MatchOption result (numeral run.now ≡ false) (λ n. n.run.now ≡ run.now) }
+    {
+        if is_numeral(run) {
+            Some(Numeral { run })
+        } else {
+            None
+        }
+    }
+
+    // What it says.
+    pub fn value(self) -> i64
+        ensures { result ≡ value self.entry.run.now }
+    {
+        match self.run {
+            [b'-', digits @ ..] => -(magnitude_of(digits) as i64),
+            digits => magnitude_of(digits) as i64,
+        }
     }
 }

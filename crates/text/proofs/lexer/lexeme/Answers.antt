@@ -10,7 +10,6 @@ pub returns-in-Open : goal.returns-in-Open
 returns-in-Open c =
     record {
       value = λ start. at_open start c.args.bytes.now c.args.at c.requires.0 (sym c.in-Open.ensures);
-      proper = tt;
       bound = (omega arith, omega (arith, c.requires.0));
     }
 
@@ -18,7 +17,6 @@ pub returns-in-Close : goal.returns-in-Close
 returns-in-Close c =
     record {
       value = λ start. at_close start c.args.bytes.now c.args.at c.requires.0 (sym c.in-Close.ensures);
-      proper = tt;
       bound = (omega arith, omega (arith, c.requires.0));
     }
 
@@ -36,8 +34,7 @@ returns-in-Part c =
     (cases_lt at end) in
     record {
       value = λ start. at_run start bs at end some bound.1 c.span-end.ensures.all c.span-end.ensures.stops
-          ∙ ap (λ s. placed (start + at) s ∷ tokens (start + end) (drop end bs)) (sym c.token_of.ensures.value);
-      proper = c.token_of.ensures.proper;
+          ∙ ap (λ s. placed (start + at) s ∷ tokens (start + end) (drop end bs)) (sym c.token_of.ensures);
       bound = (some, bound.1);
     }
 
@@ -46,6 +43,5 @@ returns-in-Blank c =
     let told = sym c.from.ensures in
     record {
       value = λ start. ⊎_elim (λ e. absurd (c.requires.1 (told ∙ e))) (λ e. at_foreign start c.args.bytes.now c.args.at c.requires.0 (told ∙ e)) c.in-Blank.is;
-      proper = tt;
       bound = (omega arith, omega (arith, c.requires.0));
     }

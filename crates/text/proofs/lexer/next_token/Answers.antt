@@ -1,6 +1,5 @@
 use Rattle.std.proofs.Common.{◌+◌, ◌∷◌, drop, refl, ap, ◌∙◌, arith}
-use Rattle.std.proofs.lemmas.Option.{MatchOption-at_some}
-use Rattle.text.specs.Next.{Proper, told}
+use Rattle.text.specs.Next.{told}
 use Rattle.text.specs.Tokens.{placed, tokens}
 use Rattle.text.proofs.Lexing.{at_end, from_there}
 use Rattle.text.proofs.lexer.next_token.Goals as goal
@@ -25,7 +24,6 @@ returns-in-Some c =
       value = record {
         first = from_there start bs c.args.from at e.bound.0 e.bound.1 e.all ∙ found.value start
             ∙ ap (λ t. placed (start + at) (told t) ∷ tokens (start + c.lexeme-found.result.end) (drop c.lexeme-found.result.end bs)) c.in-Some.is;
-        proper = MatchOption-at_some (Unit {0}) Proper c.in-Some.token c.in-Some.is found.proper;
         near = omega (arith, e.bound.1);
         within = found.bound.1;
         onward = omega (arith, e.bound.0, found.bound.0);
