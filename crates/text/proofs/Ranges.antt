@@ -1,7 +1,8 @@
 -- What is gathered of the values that are drawn: all of them, or the byte of the first that is outside its range.
 -- Assumes nothing.
-use Rattle.std.proofs.Common.{◌≡◌, ℕ, zero, suc, ◌+◌, ◌*◌, true, false, ◌&&◌, eqb, ◌⊎◌, List, [], ◌∷◌, get_or, drop, ℤ, pos, negsuc, nat_abs, Some, None, Option, sym, refl, ap, ◌∙◌, inl, inr, ⊎_elim, arith}
+use Rattle.std.proofs.Common.{◌≡◌, ℕ, zero, suc, ◌+◌, ◌*◌, true, false, ◌&&◌, eqb, ◌⊎◌, List, [], ◌∷◌, get_or, drop, ℤ, pos, negsuc, nat_abs, Some, None, Ok, Err, Option, sym, refl, ap, ◌∙◌, inl, inr, ⊎_elim, arith}
 use lib.Signed.{le_z}
+use Rattle.std.specs.Option.{ok_or}
 use Rattle.std.specs.List.{AllByRecursion}
 use Rattle.std.proofs.lemmas.List.{drop-map, get_or-drop}
 use Rattle.std.proofs.lemmas.Int.{ints}
@@ -9,14 +10,13 @@ use Rattle.std.proofs.lemmas.Bool.{and_parts, both_ways, cases_Bool, cond-false,
 use Rattle.book.specs.declared.class.Class.TheVariants.{Availability, Delivery}
 use Rattle.text.specs.Forms.{fields}
 use Rattle.text.specs.Grammar.{Allowed, Between, Held, Off, Ranged, Values, Within, byte_of, drawn, drawn_fields, mark, said, spelled, values, verb}
-use Rattle.text.specs.Reading.{draft_of, earlier, formed, fresh, gather, gathered, hold, hold_number, take_in, taken_in}
+use Rattle.text.specs.Reading.{draft_of, formed, fresh, gather, hold, hold_number, take_in}
 use Rattle.text.specs.Tokens.{Placed, nothing, placed}
-use Rattle.text.specs.declared.form.Draft.{Draft}
+use Rattle.text.specs.declared.draft.Draft.{Draft}
 use Rattle.text.specs.declared.form.Field.{Field}
 use Rattle.text.specs.declared.form.Field.TheVariants.{Asset, Award, Cents, Class as OfClass, Holder, Kw, Ready as IsReady}
 use Rattle.text.specs.declared.form.Form.{Form}
 use Rattle.text.specs.declared.form.Form.TheVariants as say
-use Rattle.text.specs.declared.form.Gathered.{Gathered}
 use Rattle.text.specs.declared.form.Verb.{Verb}
 use Rattle.text.specs.declared.form.Verb.TheVariants.{Close, List as Listing, Over, Payin, Ready, Term, Under, Uplift}
 use Rattle.text.proofs.Drafts.{Numeric}
@@ -101,41 +101,34 @@ module _ (f : Field) (fs : List Field) (x : Held f) (vs : Values fs) (ts : List 
   rest_said : said (drop 4 ts) ≡ drawn_fields fs vs
   rest_said = sym (drop-map (λ t. t.symbol) 4 ts) ∙ ap (drop 4) e
 
-  took : (g : Gathered) (o : Option Draft) → hold f (mark f x) g.draft ≡ o → take_in f (get_or ts 2 (placed 0 nothing)) g ≡ taken_in o (get_or ts 2 (placed 0 nothing)).place g
-  took g o held = ap (λ o. taken_in o (get_or ts 2 (placed 0 nothing)).place g) (ap (λ s. hold f s g.draft) value_said ∙ held)
+  took : (d : Draft) (o : Option Draft) → hold f (mark f x) d ≡ o → take_in f (get_or ts 2 (placed 0 nothing)) (Ok d) ≡ ok_or o (byte_of ts 2)
+  took d o held = ap (λ o. ok_or o (byte_of ts 2)) (ap (λ s. hold f s d) value_said ∙ held)
 
-pub gather_ranged : (fs : List Field) (vs : Values fs) (ts : List Placed) (g : Gathered) → said ts ≡ drawn_fields fs vs → AllByRecursion Numeric (drawn_fields fs vs) → Ranged fs vs
-    → gather fs ts g ≡ gathered (filled fs vs g.draft) g.off
-gather_ranged [] vs ts g e ns r = refl
-gather_ranged (f ∷ fs) (x, vs) ts g e ns r =
-    ap (gather fs (drop 4 ts)) (took f fs x vs ts e g _ (hold_within f x g.draft ns.1.1.0 r.0))
-    ∙ gather_ranged fs vs (drop 4 ts) (gathered (put f x g.draft) g.off) (rest_said f fs x vs ts e) ns.1.1.1.1 r.1
+pub gather_ranged : (fs : List Field) (vs : Values fs) (ts : List Placed) (d : Draft) → said ts ≡ drawn_fields fs vs → AllByRecursion Numeric (drawn_fields fs vs) → Ranged fs vs
+    → gather fs ts (Ok d) ≡ Ok (filled fs vs d)
+gather_ranged [] vs ts d e ns r = refl
+gather_ranged (f ∷ fs) (x, vs) ts d e ns r =
+    ap (gather fs (drop 4 ts)) (took f fs x vs ts e d _ (hold_within f x d ns.1.1.0 r.0))
+    ∙ gather_ranged fs vs (drop 4 ts) (put f x d) (rest_said f fs x vs ts e) ns.1.1.1.1 r.1
 
-kept_one : (o : Option Draft) (place : ℕ) (g : Gathered) (byte : ℕ) → g.off ≡ Some byte → (taken_in o place g).off ≡ Some byte
-kept_one (Some d) place g byte e = e
-kept_one None place g byte e = ap (λ off. earlier off place) e
+gather_kept : (fs : List Field) (ts : List Placed) (byte : ℕ) → gather fs ts (Err byte) ≡ Err byte
+gather_kept [] ts byte = refl
+gather_kept (f ∷ fs) ts byte = gather_kept fs (drop 4 ts) byte
 
-gather_kept : (fs : List Field) (ts : List Placed) (g : Gathered) (byte : ℕ) → g.off ≡ Some byte → (gather fs ts g).off ≡ Some byte
-gather_kept [] ts g byte e = e
-gather_kept (f ∷ fs) ts g byte e =
-    gather_kept fs (drop 4 ts) (take_in f (get_or ts 2 (placed 0 nothing)) g) byte
-    (kept_one (hold f (get_or ts 2 (placed 0 nothing)).symbol g.draft) (get_or ts 2 (placed 0 nothing)).place g byte e)
-
-pub gather_off : (fs : List Field) (vs : Values fs) (ts : List Placed) (g : Gathered) (i : ℕ) → said ts ≡ drawn_fields fs vs → AllByRecursion Numeric (drawn_fields fs vs) → Off fs vs i
-    → g.off ≡ None → (gather fs ts g).off ≡ Some (byte_of ts (4 * i + 2))
-gather_off [] vs ts g i e ns off none = absurd off
-gather_off (f ∷ fs) (x, vs) ts g zero e ns off none =
-    ap (λ g. (gather fs (drop 4 ts) g).off) (took f fs x vs ts e g None (hold_outside f x g.draft ns.1.1.0 off))
-    ∙ gather_kept fs (drop 4 ts) _ (byte_of ts 2) (ap (λ off. earlier off (get_or ts 2 (placed 0 nothing)).place) none)
-gather_off (f ∷ fs) (x, vs) ts g (suc i) e ns off none =
-    ap (λ g. (gather fs (drop 4 ts) g).off) (took f fs x vs ts e g _ (hold_within f x g.draft ns.1.1.0 off.0))
-    ∙ gather_off fs vs (drop 4 ts) (gathered (put f x g.draft) g.off) i (rest_said f fs x vs ts e) ns.1.1.1.1 off.1 none
-    ∙ ap (λ t. Some (t.place + 1)) (get_or-drop 4 ts (4 * i + 2) (placed 0 nothing))
-    ∙ ap (λ k. Some (byte_of ts k)) (omega arith)
+pub gather_off : (fs : List Field) (vs : Values fs) (ts : List Placed) (d : Draft) (i : ℕ) → said ts ≡ drawn_fields fs vs → AllByRecursion Numeric (drawn_fields fs vs) → Off fs vs i
+    → gather fs ts (Ok d) ≡ Err (byte_of ts (4 * i + 2))
+gather_off [] vs ts d i e ns off = absurd off
+gather_off (f ∷ fs) (x, vs) ts d zero e ns off =
+    ap (gather fs (drop 4 ts)) (took f fs x vs ts e d None (hold_outside f x d ns.1.1.0 off)) ∙ gather_kept fs (drop 4 ts) (byte_of ts 2)
+gather_off (f ∷ fs) (x, vs) ts d (suc i) e ns off =
+    ap (gather fs (drop 4 ts)) (took f fs x vs ts e d _ (hold_within f x d ns.1.1.0 off.0))
+    ∙ gather_off fs vs (drop 4 ts) (put f x d) i (rest_said f fs x vs ts e) ns.1.1.1.1 off.1
+    ∙ ap (λ t. Err (t.place + 1)) (get_or-drop 4 ts (4 * i + 2) (placed 0 nothing))
+    ∙ ap (λ k. Err (byte_of ts k)) (omega arith)
 
 -- the form of a word and of values in their ranges
 
-pub formed_again : (f : Form) → formed (verb f) (filled (fields (verb f)) (values f) fresh.draft) ≡ f
+pub formed_again : (f : Form) → formed (verb f) (filled (fields (verb f)) (values f) fresh) ≡ f
 formed_again (say.List asset holder) = refl
 formed_again (say.Term asset award commitment true) = refl
 formed_again (say.Term asset award commitment false) = refl
@@ -151,7 +144,7 @@ pub record Made (v : Verb) (vs : Values (fields v)) (f : Form) : Type 0 where
   pub sound : Allowed f
 
 abbrev made_of : (v : Verb) → Values (fields v) → Form
-made_of v vs = formed v (filled (fields v) vs fresh.draft)
+made_of v vs = formed v (filled (fields v) vs fresh)
 
 pub made : (v : Verb) (vs : Values (fields v)) → Ranged (fields v) vs → Made v vs (made_of v vs)
 made Listing (pos asset, (pos holder, tt)) r = record { symbols = refl; sound = r }

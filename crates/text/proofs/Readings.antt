@@ -1,6 +1,6 @@
 -- A line is read as the grammar says, and in no other way.
 -- Assumes nothing.
-use Rattle.std.proofs.Common.{◌≡◌, ℕ, suc, ◌+◌, ◌*◌, ◌<◌, List, [], ◌∷◌, length, get_or, take, drop, None, Ok, Err, Result, sym, refl, ap, ◌∙◌, subst, ⊎_elim, add-one, arith}
+use Rattle.std.proofs.Common.{◌≡◌, ℕ, suc, ◌+◌, ◌*◌, ◌<◌, List, [], ◌∷◌, length, get_or, take, drop, Ok, Err, Result, sym, refl, ap, ◌∙◌, subst, ⊎_elim, add-one, arith}
 use Rattle.std.specs.List.{AllByRecursion}
 use Rattle.std.proofs.ByRecursion.{All-take}
 use Rattle.std.proofs.lemmas.List.{drop-map, get_or-drop, take-take}
@@ -8,7 +8,7 @@ use Rattle.std.proofs.lemmas.Bool.{cases_lt, cases_order, cond-true, lt-ltb}
 use Rattle.text.specs.Forms.{fields, is_opening, verb_of, wanted}
 use Rattle.text.specs.Grammar.{Begins, Drawn, Off, Only, Ranged, Reads, Tokened, Values, byte_of, drawn, drawn_fields, early, long, off, said, stray, taken, value_place, values, verb, wrong}
 use Rattle.text.specs.Next.{first_nothing}
-use Rattle.text.specs.Reading.{by_range, by_shape, by_tokens, by_verb, form_in, fresh, gather, reading}
+use Rattle.text.specs.Reading.{by_range, by_shape, by_tokens, by_verb, form_in, formed, fresh, gather, reading}
 use Rattle.text.specs.Tokens.{Placed, Symbol, nothing, placed, tokens}
 use Rattle.text.specs.declared.fault.FormFault.{FormFault}
 use Rattle.text.specs.declared.fault.FormFault.TheVariants.{NoForm, OutOfRange, Text}
@@ -24,7 +24,7 @@ use Rattle.text.proofs.Ways.{LeadsForm, Meets, Shape, against_met, broken_form, 
 -- tokens that are drawn by a form's word with some values
 
 drawn_read : (end : ℕ) (ts : List Placed) (v : Verb) (vs : Values (fields v)) → said ts ≡ drawn v vs
-    → form_in end ts ≡ by_range v (gather (fields v) (drop 2 ts) fresh).draft (gather (fields v) (drop 2 ts) fresh).off
+    → form_in end ts ≡ by_range v (gather (fields v) (drop 2 ts) (Ok fresh))
 drawn_read end [] v vs e = absurd (let z : ◌≡◌ {A = ℕ} 0 1 = cc in omega arith)
 drawn_read end (t ∷ []) v vs e = absurd (let z : ◌≡◌ {A = ℕ} 0 1 = cc in omega arith)
 drawn_read end (t ∷ u ∷ ts) v vs e =
@@ -40,14 +40,14 @@ module _ (end : ℕ) (ts : List Placed) (v : Verb) (vs : Values (fields v)) (e :
   fields_numeric : AllByRecursion Numeric (drawn_fields (fields v) vs)
   fields_numeric = (subst (AllByRecursion Numeric) e ns).1.1
 
-  ranged_read : (f : Form) → Ranged (fields v) vs → by_range v (filled (fields v) vs fresh.draft) None ≡ Ok f → form_in end ts ≡ Ok f
-  ranged_read f r formed =
-      drawn_read end ts v vs e ∙ ap (λ g. by_range v g.draft g.off) (gather_ranged (fields v) vs (drop 2 ts) fresh fields_said fields_numeric r) ∙ formed
+  ranged_read : (f : Form) → Ranged (fields v) vs → formed v (filled (fields v) vs fresh) ≡ f → form_in end ts ≡ Ok f
+  ranged_read f r same =
+      drawn_read end ts v vs e ∙ ap (by_range v) (gather_ranged (fields v) vs (drop 2 ts) fresh fields_said fields_numeric r) ∙ ap Ok same
 
   off_read : (i : ℕ) → Off (fields v) vs i → form_in end ts ≡ Err (OutOfRange (byte_of ts (value_place i)))
   off_read i o =
       drawn_read end ts v vs e
-      ∙ ap (by_range v (gather (fields v) (drop 2 ts) fresh).draft) (gather_off (fields v) vs (drop 2 ts) fresh i fields_said fields_numeric o refl)
+      ∙ ap (by_range v) (gather_off (fields v) vs (drop 2 ts) fresh i fields_said fields_numeric o)
       ∙ ap (λ t. Err (OutOfRange (t.place + 1))) (get_or-drop 2 ts (4 * i + 2) (placed 0 nothing))
       ∙ ap (λ k. Err (OutOfRange (byte_of ts k))) (omega arith)
 
@@ -82,7 +82,7 @@ reads_only : (line : List ℕ) (r : Result Form FormFault) → Reads line r → 
 reads_only line r (taken {f} t e s) =
     sym
     (tokened_line line t
-    ∙ ranged_read (length line + 1) (tokens 0 line) (verb f) (values f) e (tokens_numeric 0 line) f s (ap Ok (formed_again f)))
+    ∙ ranged_read (length line + 1) (tokens 0 line) (verb f) (values f) e (tokens_numeric 0 line) f s (formed_again f))
 reads_only line r (long h) = sym (cond-true _ _ _ (lt-ltb 300 (length line) h))
 reads_only line r (stray k h among before none) =
     sym (short_line line h ∙ ap (by_tokens (length line + 1) (tokens 0 line)) (stray_first (tokens 0 line) k among before none))

@@ -12,7 +12,7 @@ use Rattle.text.specs.declared.fault.FormFault.{FormFault}
 use Rattle.text.specs.declared.form.Field.{Field}
 use Rattle.text.specs.declared.form.Form.{Form}
 use Rattle.text.specs.declared.form.Form.TheVariants.{Close}
-use Rattle.text.specs.declared.form.Gathered.{Gathered}
+use Rattle.text.specs.declared.draft.Draft.{Draft}
 use Rattle.text.specs.declared.form.Item.{Item}
 use Rattle.text.specs.declared.form.Item.TheVariants.{Close as Closed, Name, Open, Value}
 use Rattle.text.specs.declared.token.Next.{Next}
@@ -73,7 +73,7 @@ field_read {bytes = bytes} {start = start} {from = from} {field = field} {bracke
     }
 
 -- one field more, of fields that are read in their order
-pub gather_more : (fs : List Field) (i : ℕ) (d : Field) (ts ts' : List Placed) (t : Placed) (g g' : Gathered) → i < length fs
+pub gather_more : (fs : List Field) (i : ℕ) (d : Field) (ts ts' : List Placed) (t : Placed) (g g' : Result Draft ℕ) → i < length fs
     → drop 4 ts ≡ ts' → get_or ts 2 (placed 0 nothing) ≡ t → g' ≡ take_in (get_or fs i d) t g
     → gather (drop (i + 1) fs) ts' g' ≡ gather (drop i fs) ts g
 gather_more fs i d ts ts' t g g' h rest held taken =

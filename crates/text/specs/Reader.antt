@@ -57,7 +57,7 @@ FieldRead bytes start from field (Ok next) = Read bytes start from field next
 FieldRead bytes start from field (Err fault) = (is : List Item) → against (end_of start bytes) (with_field field is) (from_on bytes start from) ≡ Some fault
 
 pub record Gone (bytes : List ℕ) (start : ℕ) (fields : List Field) (rest : Rest) : Type 0 where
-  pub values : rest.gathered ≡ gather fields (from_on bytes start 0) fresh
+  pub values : rest.gathered ≡ gather fields (from_on bytes start 0) (Ok fresh)
   pub passed : against (end_of start bytes) (wanted_of fields) (from_on bytes start 0) ≡ against (end_of start bytes) (Closed ∷ []) (from_on bytes start rest.end)
   pub within : rest.end ≤ length bytes
 

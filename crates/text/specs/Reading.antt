@@ -2,11 +2,12 @@
 --   fault_at    of a token that cannot stand where it stands
 --   against     of tokens where items are wanted: the first that does not fit, or that the line ends early (at byte `end`)
 --   hold        a draft with the value of a field in it; nothing where the value is outside its range
---   gather      the values of some fields, and the byte of the first that is outside its range
+--   gather      the values of some fields, or the byte of the first that is outside its range
 --   formed      the form of a word and of its values
 --   reading     a line as the reader takes it: first its length, then whether all is tokens, then their form, then the ranges
 -- Assumes nothing.
-use Rattle.std.specs.Prelude.{ℕ, ◌+◌, Bool, false, cond, ◌&&◌, List, [], ◌∷◌, length, drop, ℤ, pos, neg_ℤ, Some, None, Ok, Err, Option, Result, ◌==◌, int_le, nat_lt, slice_index_or, unsigned_abs}
+use Rattle.std.specs.Prelude.{ℕ, ◌+◌, Bool, true, false, cond, ◌&&◌, List, [], ◌∷◌, length, drop, ℤ, pos, neg_ℤ, Some, None, Ok, Err, Option, Result, ◌==◌, int_le, nat_lt, slice_index_or, unsigned_abs}
+use Rattle.std.specs.Option.{ok_or}
 use Rattle.payment.specs.Stand.{award_most, commitment_most}
 use Rattle.book.specs.Limits.{asset_most, entry_most, holder_most}
 use Rattle.book.specs.declared.class.Class.{Class}
@@ -17,12 +18,11 @@ use Rattle.text.specs.Tokens.{Placed, Symbol, closing, nothing, number, opening,
 use Rattle.text.specs.declared.fault.FormFault.{FormFault}
 use Rattle.text.specs.declared.fault.FormFault.TheVariants.{NoForm, OutOfRange, Text}
 use Rattle.text.specs.declared.fault.TextFault.TheVariants.{LongLine, NoToken}
-use Rattle.text.specs.declared.form.Draft.{Draft}
+use Rattle.text.specs.declared.draft.Draft.{Draft}
 use Rattle.text.specs.declared.form.Field.{Field}
 use Rattle.text.specs.declared.form.Field.TheVariants.{Asset, Award, Cents, Class as OfClass, Holder, Kw, Ready as IsReady}
 use Rattle.text.specs.declared.form.Form.{Form}
 use Rattle.text.specs.declared.form.Form.TheVariants as form
-use Rattle.text.specs.declared.form.Gathered.{Gathered}
 use Rattle.text.specs.declared.form.Item.{Item}
 use Rattle.text.specs.declared.form.Verb.{Verb}
 use Rattle.text.specs.declared.form.Verb.TheVariants.{Close, List as Listing, Over, Payin, Ready, Term, Under, Uplift}
@@ -51,17 +51,27 @@ abbrev pub draft_of : Class → ℕ → ℕ → ℤ → ℕ → Bool → ℕ →
 draft_of class asset holder award kw ready cents =
     record { class = class; asset = asset; holder = holder; award = award; kw = kw; ready = ready; cents = cents }
 
-abbrev pub ranged : ℤ → ℤ → ℤ → Draft → Option Draft
-ranged least most z d = cond (int_le least z && int_le z most) (Some d) None
+-- whether a number is in a field's range
+abbrev pub in_range : Field → ℤ → Bool
+in_range OfClass z = true
+in_range Asset z = int_le (pos 1) z && int_le z (pos asset_most)
+in_range Holder z = int_le (pos 1) z && int_le z (pos holder_most)
+in_range Award z = int_le (neg_ℤ award_most) z && int_le z award_most
+in_range Kw z = int_le (pos 0) z && int_le z (pos commitment_most)
+in_range IsReady z = int_le (pos 0) z && int_le z (pos 1)
+in_range Cents z = int_le (pos 1) z && int_le z (pos entry_most)
+
+abbrev pub with_number : Field → ℤ → Draft → Draft
+with_number OfClass z d = d
+with_number Asset z d = draft_of d.class (unsigned_abs z) d.holder d.award d.kw d.ready d.cents
+with_number Holder z d = draft_of d.class d.asset (unsigned_abs z) d.award d.kw d.ready d.cents
+with_number Award z d = draft_of d.class d.asset d.holder z d.kw d.ready d.cents
+with_number Kw z d = draft_of d.class d.asset d.holder d.award (unsigned_abs z) d.ready d.cents
+with_number IsReady z d = draft_of d.class d.asset d.holder d.award d.kw (unsigned_abs z == 1) d.cents
+with_number Cents z d = draft_of d.class d.asset d.holder d.award d.kw d.ready (unsigned_abs z)
 
 abbrev pub hold_number : Field → ℤ → Draft → Option Draft
-hold_number OfClass z d = Some d
-hold_number Asset z d = ranged (pos 1) (pos asset_most) z (draft_of d.class (unsigned_abs z) d.holder d.award d.kw d.ready d.cents)
-hold_number Holder z d = ranged (pos 1) (pos holder_most) z (draft_of d.class d.asset (unsigned_abs z) d.award d.kw d.ready d.cents)
-hold_number Award z d = ranged (neg_ℤ award_most) award_most z (draft_of d.class d.asset d.holder z d.kw d.ready d.cents)
-hold_number Kw z d = ranged (pos 0) (pos commitment_most) z (draft_of d.class d.asset d.holder d.award (unsigned_abs z) d.ready d.cents)
-hold_number IsReady z d = ranged (pos 0) (pos 1) z (draft_of d.class d.asset d.holder d.award d.kw (unsigned_abs z == 1) d.cents)
-hold_number Cents z d = ranged (pos 1) (pos entry_most) z (draft_of d.class d.asset d.holder d.award d.kw d.ready (unsigned_abs z))
+hold_number f z d = cond (in_range f z) (Some (with_number f z d)) None
 
 abbrev pub with_class : Option Class → Draft → Draft
 with_class None d = d
@@ -74,25 +84,15 @@ hold f (worded bs) d = Some (with_class (class_named bs) d)
 hold f (number bs) d = hold_number f (value bs) d
 hold f nothing d = Some d
 
-abbrev pub gathered : Draft → Option ℕ → Gathered
-gathered draft off = record { draft = draft; off = off }
+abbrev pub fresh : Draft
+fresh = draft_of Delivery 0 0 (pos 0) 0 false 0
 
-abbrev pub fresh : Gathered
-fresh = gathered (draft_of Delivery 0 0 (pos 0) 0 false 0) None
-
-abbrev pub earlier : Option ℕ → ℕ → Option ℕ
-earlier (Some byte) place = Some byte
-earlier None place = Some (place + 1)
-
-abbrev pub taken_in : Option Draft → ℕ → Gathered → Gathered
-taken_in (Some d) place g = gathered d g.off
-taken_in None place g = gathered g.draft (earlier g.off place)
-
-abbrev pub take_in : Field → Placed → Gathered → Gathered
-take_in f t g = taken_in (hold f t.symbol g.draft) t.place g
+abbrev pub take_in : Field → Placed → Result Draft ℕ → Result Draft ℕ
+take_in f t (Ok d) = ok_or (hold f t.symbol d) (t.place + 1)
+take_in f t (Err byte) = Err byte
 
 -- the value of a field is the third of its four tokens
-abbrev pub gather : List Field → List Placed → Gathered → Gathered
+abbrev pub gather : List Field → List Placed → Result Draft ℕ → Result Draft ℕ
 gather [] ts g = g
 gather (f ∷ fs) ts g = gather fs (drop 4 ts) (take_in f (slice_index_or ts 2 (placed 0 nothing)) g)
 
@@ -108,13 +108,13 @@ formed Close d = form.Close
 
 -- the line
 
-abbrev pub by_range : Verb → Draft → Option ℕ → Result Form FormFault
-by_range v d (Some byte) = Err (OutOfRange byte)
-by_range v d None = Ok (formed v d)
+abbrev pub by_range : Verb → Result Draft ℕ → Result Form FormFault
+by_range v (Ok d) = Ok (formed v d)
+by_range v (Err byte) = Err (OutOfRange byte)
 
 abbrev pub by_shape : Verb → List Placed → Option FormFault → Result Form FormFault
 by_shape v ts (Some fault) = Err fault
-by_shape v ts None = by_range v (gather (fields v) ts fresh).draft (gather (fields v) ts fresh).off
+by_shape v ts None = by_range v (gather (fields v) ts (Ok fresh))
 
 abbrev pub by_verb : ℕ → Placed → List Placed → Option Verb → Result Form FormFault
 by_verb end u ts None = Err (fault_at u)

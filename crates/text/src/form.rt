@@ -38,7 +38,7 @@ pub enum Form {
 }
 
 // The word of a form.
-#[derive(Clone, Copy)]
+#[derive(Clone, Copy, Debug, PartialEq, Eq)]
 pub(crate) enum Verb {
     List,
     Term,
@@ -50,7 +50,7 @@ pub(crate) enum Verb {
     Close,
 }
 
-#[derive(Clone, Copy)]
+#[derive(Clone, Copy, Debug, PartialEq, Eq)]
 pub(crate) enum Field {
     Class,
     Asset,
@@ -62,29 +62,10 @@ pub(crate) enum Field {
 }
 
 // What may stand at a place among the fields.
-#[derive(Clone, Copy)]
+#[derive(Clone, Copy, Debug, PartialEq, Eq)]
 pub(crate) enum Item {
     Open,
     Name(Field),
     Value(Field),
     Close,
-}
-
-// The values of the fields that were read, each 0 until it is.
-#[derive(Clone, Copy)]
-pub(crate) struct Draft {
-    pub class: Class,
-    pub asset: u64,
-    pub holder: u64,
-    pub award: i64,
-    pub kw: u64,
-    pub ready: bool,
-    pub cents: u64,
-}
-
-// What was gathered of some fields: their values, and the place of the first that was outside its range.
-#[derive(Clone, Copy)]
-pub(crate) struct Gathered {
-    pub draft: Draft,
-    pub off: Option<usize>,
 }

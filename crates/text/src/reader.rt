@@ -8,9 +8,9 @@ ghost use Rattle.text.specs.Reading.{against, by_shape, form_in, reading};
 ghost use Rattle.text.specs.Tokens.{tokens};
 ghost use Rattle.text.specs.declared.form.Item.TheVariants.{Close as Closed};
 
-use crate::draft::{begun, form_of, taken_in};
+use crate::draft::{Draft, taken_in};
 use crate::fault::{FormFault, TextFault};
-use crate::form::{Field, Form, Gathered, Item, Verb};
+use crate::form::{Field, Form, Item, Verb};
 use crate::lexer::{all_tokens, next_token};
 use crate::token::{Next, Token};
 use crate::words::{fields_of, suits, verb_named};
@@ -25,7 +25,7 @@ pub(crate) struct Head {
 // What was gathered of the fields, and where their part of the line goes on behind them.
 #[derive(Clone, Copy)]
 pub(crate) struct Rest {
-    pub gathered: Gathered,
+    pub gathered: Result<Draft, usize>,
     pub end: usize,
 }
 
@@ -84,7 +84,7 @@ fn read_fields(bytes: &[u8], start: usize, fields: &[Field]) -> Result<Rest, For
     requires { start + length bytes.now ≤ 300 }
     ensures cases { FieldsRead bytes.now start fields.now result }
 {
-    let mut gathered = begun();
+    let mut gathered = Ok(Draft::new());
     let mut end = 0;
     for field in fields {
         let value = read_field(bytes, start, end, *field)?;
@@ -128,9 +128,9 @@ fn read_behind(verb: Verb, bytes: &[u8], start: usize) -> Result<Form, FormFault
 {
     let rest = read_fields(bytes, start, fields_of(verb))?;
     finish(bytes, start, rest.end)?;
-    match rest.gathered.off {
-        Some(byte) => Err(FormFault::OutOfRange(byte)),
-        None => Ok(form_of(verb, rest.gathered.draft)),
+    match rest.gathered {
+        Ok(draft) => Ok(draft.form(verb)),
+        Err(byte) => Err(FormFault::OutOfRange(byte)),
     }
 }
 
