@@ -1,11 +1,11 @@
 -- A line, from its length to its form.
 -- Assumes nothing.
-use Rattle.std.proofs.Common.{◌≡◌, ℕ, ◌+◌, ◌-◌, ◌≤◌, true, List, [], ◌∷◌, length, take, drop, Some, None, Ok, Err, Option, Result, sym, refl, ap, ◌∙◌, ⊎_elim, arith}
-use Rattle.std.proofs.lemmas.List.{length-drop, take_rest}
+use Rattle.std.proofs.Common.{◌≡◌, ℕ, ◌+◌, ◌≤◌, true, List, [], ◌∷◌, length, Some, None, Ok, Err, Option, sym, refl, ap, ◌∙◌, ⊎_elim, arith}
 use Rattle.std.proofs.lemmas.Bool.{cases_Bool, cond-false, cond-true, false≢true, le-ltb}
 use Rattle.text.specs.Forms.{fits, is_opening, verb_of, wanted}
 use Rattle.text.specs.Next.{first_nothing, stray}
-use Rattle.text.specs.Reader.{Begins, end_of, from_on}
+use Rattle.text.specs.Cursor.{end_of, left}
+use Rattle.text.specs.Reader.{Begins, read_behind, read_from}
 use Rattle.text.specs.Reading.{against, by_shape, by_tokens, by_verb, form_in, reading}
 use Rattle.text.specs.Tokens.{Placed, Symbol, closing, nothing, number, opening, tokens, worded}
 use Rattle.text.specs.declared.fault.FormFault.{FormFault}
@@ -14,12 +14,8 @@ use Rattle.text.specs.declared.form.Field.TheVariants.{Asset, Award, Cents, Clas
 use Rattle.text.specs.declared.form.Item.{Item}
 use Rattle.text.specs.declared.form.Item.TheVariants.{Close as Closed, Name, Open, Value}
 use Rattle.text.specs.declared.form.Verb.{Verb}
-use Rattle.text.specs.declared.reader.Head.{Head}
+use Rattle.text.specs.declared.lexer.Cursor.{Cursor}
 use Rattle.text.proofs.Shapes.{none_some}
-
--- what is behind a form's word, with bytes and byte numbers of its own part
-abbrev behind : Verb → ℕ → List Placed → Result Form FormFault
-behind verb end ts = by_shape verb ts (against end (wanted verb) ts)
 
 pub short_line : (line : List ℕ) → length line ≤ 300 → reading line ≡ by_tokens (length line + 1) (tokens 0 line) (first_nothing (tokens 0 line))
 short_line line h = cond-false _ _ _ (le-ltb 300 (length line) h)
@@ -27,23 +23,14 @@ short_line line h = cond-false _ _ _ (le-ltb 300 (length line) h)
 pub token_line : (line : List ℕ) → length line ≤ 300 → first_nothing (tokens 0 line) ≡ None → reading line ≡ form_in (length line + 1) (tokens 0 line)
 token_line line h e = short_line line h ∙ ap (by_tokens (length line + 1) (tokens 0 line)) e
 
-headed_line : (line : List ℕ) (head : Head) → Begins line head → form_in (length line + 1) (tokens 0 line) ≡ behind head.verb (length line + 1) (from_on line 0 head.end)
-headed_line line head b =
-    ap (form_in (length line + 1)) b.first ∙ cond-true _ _ _ b.opened ∙ ap (by_verb (length line + 1) b.word (from_on line 0 head.end)) b.named
-
--- the part behind the word has the tokens of the line from there on
-part_of : (line : List ℕ) (at : ℕ) → at ≤ length line → (verb : Verb)
-    → behind verb (end_of at (take (length line - at) (drop at line))) (from_on (take (length line - at) (drop at line)) at 0)
-    ≡ behind verb (length line + 1) (from_on line 0 at)
-part_of line at h verb =
-    ap (λ part. behind verb (end_of at part) (from_on part at 0)) (take_rest line at)
-    ∙ ap (λ end. behind verb end (from_on (drop at line) at 0)) (omega (arith, length-drop at line))
-    ∙ ap (λ place. behind verb (length line + 1) (tokens place (drop at line))) (omega arith)
-
-pub headed : (line : List ℕ) (head : Head) → Begins line head
-    → behind head.verb (end_of head.end (take (length line - head.end) (drop head.end line))) (from_on (take (length line - head.end) (drop head.end line)) head.end 0)
-    ≡ form_in (length line + 1) (tokens 0 line)
-headed line head b = part_of line head.end b.within head.verb ∙ sym (headed_line line head b)
+-- what is read behind a form's word is read of the whole
+pub headed : {before : Cursor} {verb : Verb} {after : Cursor} → Begins before verb after → read_behind verb after ≡ read_from before
+headed {before = before} {verb = verb} {after = after} b =
+    sym
+    (ap (form_in (end_of before)) b.first
+    ∙ cond-true _ _ _ b.opened
+    ∙ ap (by_verb (end_of before) b.word (left after)) b.named
+    ∙ ap (λ end. by_shape verb (left after) (against end (wanted verb) (left after))) (sym b.same_end))
 
 -- a symbol that fits something is no nothing
 fits_some : (item : Item) (place : ℕ) (s : Symbol) (later : Option ℕ) → fits item s ≡ true → stray place s later ≡ later

@@ -1,32 +1,20 @@
 -- The pieces of a line, one after the other.
 -- Assumes nothing.
-use Rattle.std.proofs.Common.{◌≡◌, ℕ, zero, suc, ◌+◌, ◌<◌, ◌≤◌, Bool, true, false, ◌&&◌, eqb, List, [], ◌∷◌, length, get_or, take, drop, sym, refl, ap, ◌∙◌, subst, ⊎_elim, arith}
-use Rattle.std.proofs.lemmas.List.{at_drop_more, at_drop_all}
-use Rattle.std.proofs.lemmas.Bool.{and_from, and_left, and_right, both_ways, cases_Bool, cases_lt, cond_both, cond-false, cond-true, eq-eqb, ne_eqb}
+use Rattle.std.proofs.Common.{◌≡◌, ℕ, zero, suc, ◌+◌, ◌<◌, ◌≤◌, Bool, true, false, ◌&&◌, eqb, List, [], ◌∷◌, length, get_or, take, drop, refl, ap, ◌∙◌, subst, ⊎_elim, arith}
+use Rattle.std.proofs.lemmas.Bool.{and_from, and_left, and_right, both_ways, cases_Bool, cond_both, cond-false, cond-true, eq-eqb, ne_eqb}
 use Rattle.text.specs.Bytes.{part, sort, sort_at}
 use Rattle.text.specs.Tokens.{Piece, grown, joined_to, piece, pieces}
 use Rattle.text.specs.declared.byte.Sort.{Sort}
 use Rattle.text.specs.declared.byte.Sort.TheVariants.{Blank, Close, Foreign, Open, Part}
 
--- pieces from a byte on, by what the byte is
-pub pieces_at : (start : ℕ) (bs : List ℕ) (i : ℕ) → i < length bs → (s : Sort) → sort_at bs i ≡ s
-    → pieces (start + i) (drop i bs) ≡ joined_to s (start + i) (get_or bs i 0) (pieces (start + (i + 1)) (drop (i + 1) bs))
-pieces_at start bs i h s e =
-    at_drop_more (pieces (start + i)) bs i 0 h
-    ∙ ap (λ s. joined_to s (start + i) (get_or bs i 0) (pieces (start + i + 1) (drop (i + 1) bs))) e
-    ∙ ap (λ p. joined_to s (start + i) (get_or bs i 0) (pieces p (drop (i + 1) bs))) (omega arith)
-
-pub pieces_end : (start : ℕ) (bs : List ℕ) (i : ℕ) → length bs ≤ i → pieces (start + i) (drop i bs) ≡ []
-pieces_end start bs i h = at_drop_all (pieces (start + i)) bs i h
-
 -- blanks, so many of them
-pub past_blanks : (n start : ℕ) (bs : List ℕ) (i : ℕ) → i + n ≤ length bs → ((k : ℕ) → i ≤ k → k < i + n → sort_at bs k ≡ Blank)
-    → pieces (start + i) (drop i bs) ≡ pieces (start + (i + n)) (drop (i + n) bs)
-past_blanks zero start bs i h all = ap (λ j. pieces (start + j) (drop j bs)) (omega arith)
-past_blanks (suc n) start bs i h all =
-    pieces_at start bs i (omega arith) Blank (all i (omega arith) (omega arith))
-    ∙ past_blanks n start bs (i + 1) (omega arith) (λ k low high. all k (omega arith) (omega arith))
-    ∙ ap (λ j. pieces (start + j) (drop j bs)) (omega arith)
+pub past_blanks : (n place : ℕ) (bs : List ℕ) → n ≤ length bs → ((k : ℕ) → k < n → sort_at bs k ≡ Blank) → pieces place bs ≡ pieces (place + n) (drop n bs)
+past_blanks zero place bs h all = ap (λ p. pieces p bs) (omega arith)
+past_blanks (suc n) place [] h all = absurd (omega arith)
+past_blanks (suc n) place (b ∷ bs) h all =
+    ap (λ s. joined_to s place b (pieces (place + 1) bs)) (all 0 (omega arith))
+    ∙ past_blanks n (place + 1) bs (omega arith) (λ k low. all (suc k) (omega arith))
+    ∙ ap (λ p. pieces p (drop n bs)) (omega arith)
 
 -- a byte is part of a run just where it is of that sort
 pub part_sort : (b : ℕ) → part b ≡ true → sort b ≡ Part
@@ -104,34 +92,24 @@ apart_joined Blank place b rest e other h = apart_past place rest h
 apart_joined Part place b rest e other h = absurd (other e)
 apart_joined Foreign place b rest e other h = and_right _ _ (not_part b other)
 
-apart : (start : ℕ) (bs : List ℕ) (i : ℕ) → (i < length bs → sort_at bs i ≡ Part → ⊥) → Apart (start + i) (pieces (start + i) (drop i bs))
-apart start bs i stops =
-    ⊎_elim
-    (λ h. subst (Apart (start + i)) (sym (at_drop_more (pieces (start + i)) bs i 0 h))
-    (apart_joined (sort_at bs i) (start + i) (get_or bs i 0) (pieces (start + i + 1) (drop (i + 1) bs)) refl (stops h) (behind (start + i + 1) (drop (i + 1) bs))))
-    (λ h. subst (Apart (start + i)) (sym (at_drop_all (pieces (start + i)) bs i h)) tt) (cases_lt i (length bs))
+apart : (place : ℕ) (bs : List ℕ) → (0 < length bs → sort_at bs 0 ≡ Part → ⊥) → Apart place (pieces place bs)
+apart place [] stops = tt
+apart place (b ∷ bs) stops = apart_joined (sort b) place b (pieces (place + 1) bs) refl (stops (omega arith)) (behind (place + 1) bs)
 
 -- a run of so many bytes and one more is one piece
-pub run_piece : (n start : ℕ) (bs : List ℕ) (i : ℕ) → i + suc n ≤ length bs → ((k : ℕ) → i ≤ k → k < i + suc n → sort_at bs k ≡ Part)
-    → (i + suc n < length bs → sort_at bs (i + suc n) ≡ Part → ⊥)
-    → pieces (start + i) (drop i bs) ≡ piece (start + i) (take (suc n) (drop i bs)) ∷ pieces (start + (i + suc n)) (drop (i + suc n) bs)
-run_piece zero start bs i h all stops =
-    pieces_at start bs i (omega arith) Part (all i (omega arith) (omega arith))
-    ∙ grown_apart (start + i) (get_or bs i 0) (pieces (start + (i + 1)) (drop (i + 1) bs))
-    (subst (λ p. Apart p (pieces (start + (i + 1)) (drop (i + 1) bs))) (omega arith) (apart start bs (i + 1) stops))
-    ∙ ap (λ front. piece (start + i) front ∷ pieces (start + (i + 1)) (drop (i + 1) bs)) (sym (at_drop_more (take 1) bs i 0 (omega arith)))
-run_piece (suc n) start bs i h all stops =
-    let b = get_or bs i 0 in
-    let next = take (suc n) (drop (i + 1) bs) in
-    let rest = pieces (start + (i + 1 + suc n)) (drop (i + 1 + suc n) bs) in
-    let same : i + 1 + suc n ≡ i + suc (suc n) = omega arith in
-    let inner : pieces (start + (i + 1)) (drop (i + 1) bs) ≡ piece (start + (i + 1)) next ∷ rest =
-    run_piece n start bs (i + 1) (omega arith) (λ k low high. all k (omega arith) (omega arith))
-    (λ lt e. stops (omega arith) (subst (λ j. sort_at bs j ≡ Part) same e)) in
-    let first : get_or next 0 0 ≡ get_or bs (i + 1) 0 = at_drop_more (λ xs. get_or (take (suc n) xs) 0 0) bs (i + 1) 0 (omega arith) in
-    let goes : part (get_or next 0 0) ≡ true = ap part first ∙ sort_part (get_or bs (i + 1) 0) (all (i + 1) (omega arith) (omega arith)) in
-    pieces_at start bs i (omega arith) Part (all i (omega arith) (omega arith))
-    ∙ ap (grown (start + i) b) inner
-    ∙ cond-true _ _ _ (and_from _ _ (eq-eqb (start + (i + 1)) (start + i + 1) (omega arith)) goes)
-    ∙ ap (λ front. piece (start + i) front ∷ rest) (sym (at_drop_more (take (suc (suc n))) bs i 0 (omega arith)))
-    ∙ ap (λ j. piece (start + i) (take (suc (suc n)) (drop i bs)) ∷ pieces (start + j) (drop j bs)) same
+pub run_piece : (n place : ℕ) (bs : List ℕ) → n < length bs → ((k : ℕ) → k < suc n → sort_at bs k ≡ Part) → (suc n < length bs → sort_at bs (suc n) ≡ Part → ⊥)
+    → pieces place bs ≡ piece place (take (suc n) bs) ∷ pieces (place + suc n) (drop (suc n) bs)
+run_piece n place [] h all stops = absurd (omega arith)
+run_piece zero place (b ∷ bs) h all stops =
+    ap (λ s. joined_to s place b (pieces (place + 1) bs)) (all 0 (omega arith))
+    ∙ grown_apart place b (pieces (place + 1) bs) (apart (place + 1) bs (λ h. stops (omega arith)))
+run_piece (suc n) place (b ∷ []) h all stops = absurd (omega arith)
+run_piece (suc n) place (b ∷ c ∷ bs) h all stops =
+    let next = take (suc n) (c ∷ bs) in
+    let rest = drop (suc n) (c ∷ bs) in
+    let inner : pieces (place + 1) (c ∷ bs) ≡ piece (place + 1) next ∷ pieces (place + 1 + suc n) rest =
+    run_piece n (place + 1) (c ∷ bs) (omega arith) (λ k low. all (suc k) (omega arith)) (λ h. stops (omega arith)) in
+    ap (λ s. joined_to s place b (pieces (place + 1) (c ∷ bs))) (all 0 (omega arith))
+    ∙ ap (grown place b) inner
+    ∙ cond-true _ _ _ (and_from _ _ (eq-eqb (place + 1) (place + 1) refl) (sort_part c (all 1 (omega arith))))
+    ∙ ap (λ p. piece place (b ∷ next) ∷ pieces p rest) (omega arith)

@@ -1,6 +1,6 @@
 -- The line that is written of a form has its symbols.
 -- Assumes nothing.
-use Rattle.std.proofs.Common.{◌≡◌, ℕ, zero, suc, ◌+◌, ◌-◌, ◌*◌, ◌^◌, ◌<◌, ◌≤◌, Bool, true, false, ◌&&◌, eqb, leb, List, [], ◌∷◌, ◌++◌, length, get_or, drop, ℤ, pos, negsuc, neg_ℤ, ◌≤ℤ◌, sym, refl, ap, ◌∙◌, subst, ⊎_elim, arith}
+use Rattle.std.proofs.Common.{◌≡◌, ℕ, zero, suc, ◌+◌, ◌*◌, ◌^◌, ◌<◌, ◌≤◌, Bool, true, false, ◌&&◌, eqb, leb, List, [], ◌∷◌, ◌++◌, length, get_or, drop, ℤ, pos, negsuc, neg_ℤ, ◌≤ℤ◌, sym, refl, ap, ◌∙◌, subst, ⊎_elim, arith}
 use lib.Signed.{mag}
 use Rattle.std.specs.Fmt.{signed_decimal}
 use Rattle.std.specs.List.{flat_map, AllByRecursion}
@@ -61,12 +61,11 @@ Stops bs = sort (get_or bs 0 0) ≡ Part → ⊥
 
 run_said : (run rest : List ℕ) (s : Symbol) (ss : List Symbol) → Run run s → Stops rest → Says rest ss → (place : ℕ) → said (tokens place (run ++ rest)) ≡ s ∷ ss
 run_said run rest s ss r stops says place =
-    ap (λ p. said (tokens p (run ++ rest))) (omega arith)
-    ∙ ap said
-    (at_run place (run ++ rest) 0 (length run) (leb-true 1 (length run) r.some) (simp length-append (omega arith))
-    (λ k low high. ap sort (get_or_append_left run rest 0 k high) ∙ part_at run k r.whole high)
+    ap said
+    (at_run place (length run) (run ++ rest) (leb-true 1 (length run) r.some) (simp length-append (omega arith))
+    (λ k high. ap sort (get_or_append_left run rest 0 k high) ∙ part_at run k r.whole high)
     (λ h e. stops (sym (ap sort (ap (λ n. get_or (run ++ rest) n 0) (omega arith) ∙ get_or-append-add run rest 0 0)) ∙ e)))
-    ∙ ap (λ bs. run_symbol bs ∷ said (tokens (place + length run) (drop (length run) (run ++ rest)))) (take_at run rest (length run - 0) (omega arith))
+    ∙ ap (λ bs. run_symbol bs ∷ said (tokens (place + length run) (drop (length run) (run ++ rest)))) (take_at run rest (length run) refl)
     ∙ ap (λ bs. run_symbol run ∷ said (tokens (place + length run) bs)) (drop_at run rest (length run) refl)
     ∙ ap (λ ss. run_symbol run ∷ ss) (says.by (place + length run))
     ∙ ap (λ s. s ∷ ss) r.means

@@ -5,7 +5,8 @@ use Rattle.std.proofs.lemmas.List.{at_drop_more}
 use Rattle.std.proofs.lemmas.Bool.{cases_Bool, cond-false, cond-true}
 use Rattle.text.specs.Forms.{fits, is_opening, wanted_of}
 use Rattle.text.specs.Next.{symbol_of}
-use Rattle.text.specs.Reader.{Missed, Read, Took, end_of, from_on, missed, with_field}
+use Rattle.text.specs.Cursor.{end_of, left}
+use Rattle.text.specs.Reader.{Missed, Read, Took, missed, with_field}
 use Rattle.text.specs.Reading.{against, form_in, gather, take_in}
 use Rattle.text.specs.Tokens.{Placed, nothing, placed}
 use Rattle.text.specs.declared.fault.FormFault.{FormFault}
@@ -15,6 +16,7 @@ use Rattle.text.specs.declared.form.Form.TheVariants.{Close}
 use Rattle.text.specs.declared.draft.Draft.{Draft}
 use Rattle.text.specs.declared.form.Item.{Item}
 use Rattle.text.specs.declared.form.Item.TheVariants.{Close as Closed, Name, Open, Value}
+use Rattle.text.specs.declared.lexer.Cursor.{Cursor}
 use Rattle.text.specs.declared.token.Next.{Next}
 
 pub none_some : {A : Type 0} {x : A} → None ≡ Some x → ⊥
@@ -25,10 +27,11 @@ failed None = Ok Close
 failed (Some fault) = Err fault
 
 -- an item that is met leaves the items behind it to the tokens behind it
-pub met : {bytes : List ℕ} {start from : ℕ} {item : Item} {next : Next} → Took bytes start from item next → (is : List Item)
-    → against (end_of start bytes) (item ∷ is) (from_on bytes start from) ≡ against (end_of start bytes) is (from_on bytes start next.end)
-met {bytes = bytes} {start = start} {item = item} took is =
-    ap (against (end_of start bytes) (item ∷ is)) took.found.first ∙ cond-true _ _ _ took.fitted
+pub met : {before : Cursor} {item : Item} {next : Next} {after : Cursor} → Took before item next after → (is : List Item)
+    → against (end_of before) (item ∷ is) (left before) ≡ against (end_of after) is (left after)
+met {before = before} {item = item} {after = after} took is =
+    ap (against (end_of before) (item ∷ is)) took.passed.first ∙ cond-true _ _ _ took.fitted
+    ∙ ap (λ end. against end is (left after)) (sym took.passed.same_end)
 
 -- an item that is missed is the fault of all items from it on
 missing_by : (end : ℕ) (item : Item) (ts : List Placed) (fault : FormFault) → missed end item ts ≡ Some fault → (is : List Item) → against end (item ∷ is) ts ≡ Some fault
@@ -50,26 +53,22 @@ no_bracket end (t ∷ u ∷ ts) fault e =
     ⊎_elim (λ fit. absurd (none_some (sym (cond-true _ _ _ fit) ∙ e))) (λ misfit. cond-false _ _ _ misfit ∙ ap failed (sym (cond-false _ _ _ misfit) ∙ e))
     (cases_Bool (is_opening t.symbol))
 
--- the value of a field, with the place behind the field
-abbrev pub behind : Next → Next → Next
-behind value close = record { token = value.token; place = value.place; end = close.end }
-
-pub field_read : {bytes : List ℕ} {start from : ℕ} {field : Field} {bracket name value close : Next}
-    → Took bytes start from Open bracket → Took bytes start bracket.end (Name field) name → Took bytes start name.end (Value field) value
-    → Took bytes start value.end Closed close → Read bytes start from field (behind value close)
-field_read {bytes = bytes} {start = start} {from = from} {field = field} {bracket = bracket} {name = name} {value = value} {close = close} o n v c =
-    let four : from_on bytes start from
+pub field_read : {a b c d e : Cursor} {field : Field} {bracket name value close : Next}
+    → Took a Open bracket b → Took b (Name field) name c → Took c (Value field) value d → Took d Closed close e → Read a field value e
+field_read {a = a} {b = b} {c = c} {d = d} {e = e} {field = field} {bracket = bracket} {name = name} {value = value} {close = close} o n v f =
+    let four : left a
     ≡ placed bracket.place (symbol_of bracket.token) ∷ placed name.place (symbol_of name.token) ∷ placed value.place (symbol_of value.token)
-    ∷ placed close.place (symbol_of close.token) ∷ from_on bytes start close.end =
-    o.found.first ∙ ap (λ ts. placed bracket.place (symbol_of bracket.token) ∷ ts)
-    (n.found.first ∙ ap (λ ts. placed name.place (symbol_of name.token) ∷ ts)
-    (v.found.first ∙ ap (λ ts. placed value.place (symbol_of value.token) ∷ ts) c.found.first)) in
+    ∷ placed close.place (symbol_of close.token) ∷ left e =
+    o.passed.first ∙ ap (λ ts. placed bracket.place (symbol_of bracket.token) ∷ ts)
+    (n.passed.first ∙ ap (λ ts. placed name.place (symbol_of name.token) ∷ ts)
+    (v.passed.first ∙ ap (λ ts. placed value.place (symbol_of value.token) ∷ ts) f.passed.first)) in
+    let same : end_of e ≡ end_of a = f.passed.same_end ∙ v.passed.same_end ∙ n.passed.same_end ∙ o.passed.same_end in
     record {
       held = ap (λ ts. get_or ts 2 (placed 0 nothing)) four;
       rest = ap (drop 4) four;
-      passed = λ is. met o (Name field ∷ Value field ∷ Closed ∷ is) ∙ met n (Value field ∷ Closed ∷ is) ∙ met v (Closed ∷ is) ∙ met c is;
-      near = v.found.near;
-      within = c.found.within;
+      passed = λ is. met o (Name field ∷ Value field ∷ Closed ∷ is) ∙ met n (Value field ∷ Closed ∷ is) ∙ met v (Closed ∷ is) ∙ met f is
+          ∙ ap (λ end. against end is (left e)) same;
+      same_end = same;
     }
 
 -- one field more, of fields that are read in their order

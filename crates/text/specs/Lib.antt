@@ -5,6 +5,7 @@ pub mod Page
 pub mod Bytes
 pub mod Tokens
 pub mod Next
+pub mod Cursor
 pub mod Forms
 pub mod Reading
 pub mod Grammar

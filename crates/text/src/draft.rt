@@ -1,5 +1,5 @@
 // The values of the fields, each tested against its range.
-ghost use Rattle.std.specs.Prelude.{◌≡◌, ◌<◌, true, Ok};
+ghost use Rattle.std.specs.Prelude.{◌≡◌};
 ghost use Rattle.text.specs.Next.{symbol_of};
 ghost use Rattle.text.specs.Reading.{formed, fresh, hold, hold_number, in_range, take_in, with_number};
 ghost use Rattle.text.specs.Tokens.{placed};
@@ -145,7 +145,6 @@ pub(crate) fn taken_in(
     field: Field,
     next: Next,
 ) -> Result<Draft, usize>
-    requires { next.place < 300 }
     ensures value { result ≡ take_in field (placed next.entry.place (symbol_of next.entry.token)) gathered }
 {
     let draft = gathered?;

@@ -1,102 +1,115 @@
 // Bytes to tokens.
-ghost use Rattle.std.specs.Prelude.{◌≡◌, ℕ, ◌+◌, ◌<◌, ◌≤◌, ◌∷◌, length, drop, ◌≢◌};
+ghost use Rattle.std.specs.Prelude.{◌≡◌, ℕ, ◌+◌, ◌<◌, ◌≤◌, ◌∷◌, length, take, drop, ◌≢◌};
 ghost use Rattle.text.specs.Bytes.{sort_at};
-ghost use Rattle.text.specs.Next.{Given, Sound, told};
-ghost use Rattle.text.specs.Tokens.{placed, run_symbol, tokens};
+ghost use Rattle.text.specs.Next.{told};
+ghost use Rattle.text.specs.Tokens.{placed, symbol_by, tokens};
 ghost use Rattle.text.specs.declared.byte.Sort.TheVariants.{Blank};
+ghost use Rattle.text.specs.declared.lexer.TheConstants.{LINE_MOST};
 
 use crate::byte::Sort;
 use crate::fault::TextFault;
 use crate::run::{Numeral, is_word};
-use crate::token::{Lexeme, Next, Token};
+use crate::token::{Next, Token};
 
-// Where the bytes of a sort end, from a place on.
-fn span(bytes: &[u8], from: usize, sort: Sort) -> usize
-    requires { from ≤ length bytes.now }
-    ensures bound { (from ≤ result) × (result ≤ length bytes.now) }
-    ensures all { (k : ℕ) → from ≤ k → k < result → sort_at bytes.now k ≡ sort }
+// The most bytes of a line.
+pub(crate) const LINE_MOST: usize = 300;
+
+// How many bytes at the front are of a sort.
+fn span(bytes: &[u8], sort: Sort) -> usize
+    ensures bound { result ≤ length bytes.now }
+    ensures all { (k : ℕ) → k < result → sort_at bytes.now k ≡ sort }
     ensures stops { result < length bytes.now → sort_at bytes.now result ≢ sort }
 {
-    for i in from..bytes.len() {
-        if Sort::from(bytes[i]) != sort {
-            return i;
+    bytes
+        .iter()
+        .position(|b| Sort::from(*b) != sort)
+        .unwrap_or(bytes.len())
+}
+
+// How many bytes stand for themselves, where the first is of a sort: a whole run, or that byte.
+fn piece_len(bytes: &[u8], sort: Sort) -> usize
+    requires some { 0 < length bytes.now }
+    requires first { sort_at bytes.now 0 ≡ sort }
+    requires no_blank { sort ≢ Blank }
+    ensures value { (place : ℕ) → tokens place bytes.now ≡ placed place (symbol_by sort (take result bytes.now)) ∷ tokens (place + result) (drop result bytes.now) }
+    ensures bound { (0 < result) × (result ≤ length bytes.now) }
+{
+    match sort {
+        Sort::Part => span(bytes, sort),
+        _ => 1,
+    }
+}
+
+// The token that bytes are whose first is of a sort, if they are one.
+fn token_of(sort: Sort, bytes: &[u8]) -> Option<Token<'_>>
+    ensures { told result ≡ symbol_by sort bytes.now }
+{
+    match sort {
+        Sort::Open => Some(Token::Open),
+        Sort::Close => Some(Token::Close),
+        Sort::Part if is_word(bytes) => Some(Token::Word(bytes)),
+        Sort::Part => Numeral::new(bytes).map(Token::Number),
+        Sort::Blank | Sort::Foreign => None,
+    }
+}
+
+// What is left of a line, and how many bytes of the line stand before it.
+#[derive(Clone, Copy, Debug, PartialEq, Eq)]
+pub(crate) struct Cursor<'a> {
+    rest: &'a [u8],
+    at: usize,
+    ghost within: { at + length rest.now ≤ LINE_MOST },
+}
+
+impl<'a> Cursor<'a> {
+    ghost use Rattle.text.specs.Cursor.{Given, Opened, end_of, left};
+    ghost use Rattle.text.specs.Next.{Sound};
+
+    // At the front of a line, if it is not too long.
+    pub fn new(line: &'a [u8]) -> Result<Cursor<'a>, TextFault>
+        ensures { Opened line.now result }
+    {
+        if line.len() > LINE_MOST {
+            return Err(TextFault::LongLine);
         }
+        Ok(Cursor { rest: line, at: 0 })
     }
-    bytes.len()
-}
 
-fn token_of(run: &[u8]) -> Option<Token<'_>>
-    ensures { told result ≡ run_symbol run.now }
-{
-    if is_word(run) {
-        Some(Token::Word(run))
-    } else {
-        Numeral::new(run).map(Token::Number)
+    // The byte past the line, counted from 1.
+    pub fn end(&self) -> usize
+        ensures { result ≡ end_of self.now }
+    {
+        self.at + self.rest.len() + 1
     }
-}
 
-// What begins at a byte that is no blank, and where it ends; no token where it is none.
-fn lexeme(bytes: &[u8], at: usize) -> Lexeme<'_>
-    requires { (at < length bytes.now) × ((sort_at bytes.now at ≢ Blank)) }
-    ensures value { (start : ℕ) → tokens (start + at) (drop at bytes.now) ≡ placed (start + at) (told result.token) ∷ tokens (start + result.end) (drop result.end bytes.now) }
-    ensures bound { (at < result.end) × (result.end ≤ length bytes.now) }
-{
-    match Sort::from(bytes[at]) {
-        Sort::Open => Lexeme {
-            token: Some(Token::Open),
-            end: at + 1,
-        },
-        Sort::Close => Lexeme {
-            token: Some(Token::Close),
-            end: at + 1,
-        },
-        Sort::Part => {
-            let end = span(bytes, at, Sort::Part);
-            Lexeme {
-                token: token_of(&bytes[at..end]),
-                end,
-            }
-        }
-        Sort::Blank | Sort::Foreign => Lexeme {
-            token: None,
-            end: at + 1,
-        },
+    // The next token, or nothing where only blanks are left.
+    pub fn next_token(&mut self) -> Result<Option<Next<'a>>, TextFault>
+        ensures { Given self.old result self.new }
+    {
+        let blanks = span(self.rest, Sort::Blank);
+        let (_, rest) = self.rest.split_at(blanks);
+        let place = self.at + blanks;
+        let [first, ..] = rest else {
+            return Ok(None);
+        };
+        let sort = Sort::from(*first);
+        let len = piece_len(rest, sort);
+        let (bytes, rest) = rest.split_at(len);
+        let Some(token) = token_of(sort, bytes) else {
+            return Err(TextFault::NoToken(place + 1));
+        };
+        *self = Cursor {
+            rest,
+            at: place + len,
+        };
+        Ok(Some(Next { token, place }))
     }
-}
 
-// The first token from a byte of a part on; the part begins at a place of its line. Nothing where only blanks are left.
-pub(crate) fn next_token(
-    bytes: &[u8],
-    start: usize,
-    from: usize,
-) -> Result<Option<Next<'_>>, TextFault>
-    requires { (from ≤ length bytes.now) × (start + length bytes.now ≤ 300) }
-    ensures value { Given bytes.now start from (tokens (start + from) (drop from bytes.now)) result }
-{
-    let at = span(bytes, from, Sort::Blank);
-    if at == bytes.len() {
-        return Ok(None);
+    // Whether all that is left is tokens.
+    pub fn all_tokens(mut self) -> Result<(), TextFault>
+        ensures { Sound (left self.entry) result }
+    {
+        while self.next_token()?.is_some() {}
+        Ok(())
     }
-    let place = start + at;
-    let found = lexeme(bytes, at);
-    match found.token {
-        Some(token) => Ok(Some(Next {
-            token,
-            place,
-            end: found.end,
-        })),
-        None => Err(TextFault::NoToken(place + 1)),
-    }
-}
-
-// Whether all of a line is tokens.
-pub(crate) fn all_tokens(line: &[u8]) -> Result<(), TextFault>
-    requires { length line.now ≤ 300 }
-    ensures cases { Sound (tokens 0 line.now) result }
-{
-    let mut at = 0;
-    while let Some(next) = next_token(line, 0, at)? {
-        at = next.end;
-    }
-    Ok(())
 }

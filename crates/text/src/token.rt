@@ -1,4 +1,7 @@
 // Tokens: parts of a line.
+ghost use Rattle.std.specs.Prelude.{◌<◌};
+ghost use Rattle.text.specs.declared.lexer.TheConstants.{LINE_MOST};
+
 use crate::run::Numeral;
 
 #[derive(Clone, Copy, Debug, PartialEq, Eq)]
@@ -9,17 +12,10 @@ pub(crate) enum Token<'a> {
     Number(Numeral<'a>),
 }
 
-// A token with its place: how many bytes stand before it in the line, and where the part that it was read from goes on.
+// A token with its place: how many bytes stand before it in the line.
 #[derive(Clone, Copy, Debug, PartialEq, Eq)]
 pub(crate) struct Next<'a> {
     pub token: Token<'a>,
     pub place: usize,
-    pub end: usize,
-}
-
-// What begins at a byte: a token, if it is one, and where it ends.
-#[derive(Clone, Copy, Debug, PartialEq, Eq)]
-pub(crate) struct Lexeme<'a> {
-    pub token: Option<Token<'a>>,
-    pub end: usize,
+    ghost near: { place < LINE_MOST },
 }

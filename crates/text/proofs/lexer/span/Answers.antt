@@ -1,9 +1,9 @@
-use Rattle.std.proofs.Common.{◌≡◌, ◌≤◌, rules, below_more}
-use Rattle.text.specs.Bytes.{sort_at}
+use Rattle.std.proofs.Common.{◌≡◌, rules, arith, tests}
+use Rattle.std.proofs.lemmas.Iterator.{IsFirst-from_position, YieldsList-from_slice}
+use Rattle.text.specs.Bytes.{sort}
 use Rattle.text.proofs.lexer.span.Goals as goal
 
-pub loop-i-preserved : goal.loop-i-preserved
-loop-i-preserved c =
-    let here : sort_at c.args.bytes.now c.loop-i.i ≡ c.args.sort = search rules in
-    λ k low high.
-    below_more (λ k. c.args.from ≤ k → sort_at c.args.bytes.now k ≡ c.args.sort) c.loop-i.i (λ k h l. c.loop-i.invariant k l h) (λ _. here) k high low
+pub returns-clause-all : goal.returns-clause-all
+returns-clause-all c =
+    let first = IsFirst-from_position _ _ _ (λ b. sort b ≡ c.args.sort → ⊥) (λ b. sort b ≡ c.args.sort) c.position.ensures.ran (YieldsList-from_slice c.args.bytes.now cc) (λ x q k. search (rules, tests)) (λ x q k. search (rules, tests)) in
+    grind arith
