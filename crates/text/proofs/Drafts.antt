@@ -5,6 +5,7 @@ use Rattle.std.proofs.Common.{◌≡◌, ℕ, true, false, cond, List, [], ◌�
 use Rattle.std.specs.Fmt.{signed_decimal}
 use Rattle.std.specs.List.{AllByRecursion}
 use Rattle.std.specs.Str.{bytes_eq}
+use Rattle.std.proofs.lemmas.Option.{none-some}
 use Rattle.std.proofs.lemmas.Slice.Eq.{bytes_eq-Decides}
 use Rattle.std.proofs.lemmas.List.{append_assoc, append-nil, take-append-drop}
 use Rattle.std.proofs.lemmas.Bool.{both_ways, cases_Bool, cond-false, cond-true}
@@ -21,7 +22,6 @@ use Rattle.text.specs.declared.form.Verb.{Verb}
 use Rattle.text.specs.declared.form.Verb.TheVariants.{Close, List as Listing, Over, Payin, Ready, Term, Under, Uplift}
 use Rattle.text.proofs.Numbers.{signed_value}
 use Rattle.text.proofs.Ways.{Leads, LeadsForm, Meets, MeetsForm}
-use Rattle.text.proofs.Shapes.{none_some}
 
 -- the number of a symbol is one
 abbrev pub Numeric : Symbol → Type 0
@@ -147,14 +147,14 @@ named_next bs w later v e next =
     one e = cc
 
 is_verb : (s : Symbol) (v : Verb) → verb_of s ≡ Some v → s ≡ worded (verb_word v)
-is_verb opening v e = absurd (none_some e)
-is_verb closing v e = absurd (none_some e)
+is_verb opening v e = absurd (none-some _ e)
+is_verb closing v e = absurd (none-some _ e)
 is_verb (worded bs) v e =
     ap worded
     (named_next bs Listing _ v e (λ e. named_next bs Term _ v e (λ e. named_next bs Over _ v e (λ e. named_next bs Under _ v e
-    (λ e. named_next bs Uplift _ v e (λ e. named_next bs Payin _ v e (λ e. named_next bs Ready _ v e (λ e. named_next bs Close _ v e (λ e. absurd (none_some e))))))))))
-is_verb (number bs) v e = absurd (none_some e)
-is_verb nothing v e = absurd (none_some e)
+    (λ e. named_next bs Uplift _ v e (λ e. named_next bs Payin _ v e (λ e. named_next bs Ready _ v e (λ e. named_next bs Close _ v e (λ e. absurd (none-some _ e))))))))))
+is_verb (number bs) v e = absurd (none-some _ e)
+is_verb nothing v e = absurd (none-some _ e)
 
 -- what meets the items of a form is drawn
 

@@ -1,13 +1,10 @@
 -- The next token, by the sort of the byte that it begins with.
 -- Assumes nothing.
-use Rattle.std.proofs.Common.{◌≡◌, ℕ, zero, suc, ◌+◌, ◌<◌, ◌≤◌, List, [], ◌∷◌, map, length, take, drop, Option, sym, refl, ap, ◌∙◌, arith}
-use Rattle.text.specs.Bytes.{sort, sort_at}
-use Rattle.text.specs.Tokens.{Piece, Placed, joined_to, piece, pieces, placed, run_symbol, Symbol, symbol, symbol_by, tokens}
-use Rattle.text.specs.Next.{stray, symbol_of}
+use Rattle.std.proofs.Common.{◌≡◌, ℕ, zero, suc, ◌+◌, ◌<◌, ◌≤◌, List, [], ◌∷◌, map, length, take, drop, sym, ap, ◌∙◌, arith}
+use Rattle.text.specs.Bytes.{sort_at}
+use Rattle.text.specs.Tokens.{Piece, Placed, placed, run_symbol, Symbol, symbol, symbol_by, tokens}
 use Rattle.text.specs.declared.byte.Sort.{Sort}
-use Rattle.text.specs.declared.byte.Sort.TheVariants.{Blank, Close as Closing, Foreign, Open as Opening, Part}
-use Rattle.text.specs.declared.token.Token.{Token}
-use Rattle.text.specs.declared.token.Token.TheVariants.{Close, Number, Open, Word}
+use Rattle.text.specs.declared.byte.Sort.TheVariants.{Blank, Part}
 use Rattle.text.proofs.Pieces.{past_blanks, run_piece}
 
 abbrev token : Piece → Placed
@@ -26,23 +23,6 @@ at_run place (suc n) (b ∷ bs) some h all stops =
     ap (map token) (run_piece n place (b ∷ bs) (omega arith) all stops)
     ∙ ap (λ s. placed place (symbol_by s (b ∷ take n bs)) ∷ tokens (place + suc n) (drop n bs)) (all 0 some)
 
--- of a sort that is joined to nothing
-alone : (place b : ℕ) (bs : List ℕ) (s : Sort) → sort b ≡ s → joined_to s place b (pieces (place + 1) bs) ≡ piece place (b ∷ []) ∷ pieces (place + 1) bs
-    → tokens place (b ∷ bs) ≡ placed place (symbol_by s (b ∷ [])) ∷ tokens (place + 1) bs
-alone place b bs s e joined =
-    ap (map token) (ap (λ s. joined_to s place b (pieces (place + 1) bs)) e ∙ joined)
-    ∙ ap (λ s. placed place (symbol_by s (b ∷ [])) ∷ tokens (place + 1) bs) e
-
--- a byte that stands for itself
-pub at_one : (place : ℕ) (bs : List ℕ) (s : Sort) → 0 < length bs → sort_at bs 0 ≡ s → (s ≡ Blank → ⊥) → (s ≡ Part → ⊥)
-    → tokens place bs ≡ placed place (symbol_by s (take 1 bs)) ∷ tokens (place + 1) (drop 1 bs)
-at_one place [] s h e b p = absurd (omega arith)
-at_one place (b ∷ bs) Opening h e blank part = alone place b bs Opening e refl
-at_one place (b ∷ bs) Closing h e blank part = alone place b bs Closing e refl
-at_one place (b ∷ bs) Blank h e blank part = absurd (blank refl)
-at_one place (b ∷ bs) Part h e blank part = absurd (part refl)
-at_one place (b ∷ bs) Foreign h e blank part = alone place b bs Foreign e refl
-
 -- the first token, where the bytes behind the blanks are cut in two
 pub first_token : (at n m : ℕ) (bs rest front behind : List ℕ) (s : Sort) (t : Symbol) → n ≤ length bs → ((k : ℕ) → k < n → sort_at bs k ≡ Blank) → rest ≡ drop n bs
     → ((place : ℕ) → tokens place rest ≡ placed place (symbol_by s (take m rest)) ∷ tokens (place + m) (drop m rest)) → front ≡ take m rest → behind ≡ drop m rest
@@ -51,10 +31,3 @@ first_token at n m bs rest front behind s t h blanks there first one others told
     past at n bs h blanks ∙ ap (tokens (at + n)) (sym there) ∙ first (at + n)
     ∙ ap (λ t. placed (at + n) t ∷ tokens (at + n + m) (drop m rest)) (sym (told ∙ ap (symbol_by s) one))
     ∙ ap (λ bs. placed (at + n) t ∷ tokens (at + n + m) bs) (sym others)
-
--- a token of the code is something, so the first that is nothing stands behind it
-pub stray_later : (place : ℕ) (t : Token) (later : Option ℕ) → stray place (symbol_of t) later ≡ later
-stray_later place Open later = refl
-stray_later place Close later = refl
-stray_later place (Word t) later = refl
-stray_later place (Number t) later = refl

@@ -12,7 +12,6 @@ mod Ranges
 mod Readings
 mod Runs
 mod Sayings
-mod Shapes
 mod Spelled
 mod Strays
 mod Tellings

@@ -1,11 +1,10 @@
 -- A line, from its length to its form.
 -- Assumes nothing.
 use Rattle.std.proofs.Common.{◌≡◌, ℕ, ◌+◌, ◌≤◌, true, List, [], ◌∷◌, length, Some, None, Ok, Err, Option, sym, refl, ap, ◌∙◌, ⊎_elim, arith}
+use Rattle.std.proofs.lemmas.Option.{none-some}
 use Rattle.std.proofs.lemmas.Bool.{cases_Bool, cond-false, cond-true, false≢true, le-ltb}
 use Rattle.text.specs.Forms.{fits, is_opening, verb_of, wanted}
 use Rattle.text.specs.Next.{first_nothing, stray}
-use Rattle.text.specs.Cursor.{end_of, left}
-use Rattle.text.specs.Reader.{Begins, read_behind, read_from}
 use Rattle.text.specs.Reading.{against, by_shape, by_tokens, by_verb, form_in, reading}
 use Rattle.text.specs.Tokens.{Placed, Symbol, closing, nothing, number, opening, tokens, worded}
 use Rattle.text.specs.declared.fault.FormFault.{FormFault}
@@ -14,23 +13,12 @@ use Rattle.text.specs.declared.form.Field.TheVariants.{Asset, Award, Cents, Clas
 use Rattle.text.specs.declared.form.Item.{Item}
 use Rattle.text.specs.declared.form.Item.TheVariants.{Close as Closed, Name, Open, Value}
 use Rattle.text.specs.declared.form.Verb.{Verb}
-use Rattle.text.specs.declared.lexer.Cursor.{Cursor}
-use Rattle.text.proofs.Shapes.{none_some}
 
 pub short_line : (line : List ℕ) → length line ≤ 300 → reading line ≡ by_tokens (length line + 1) (tokens 0 line) (first_nothing (tokens 0 line))
 short_line line h = cond-false _ _ _ (le-ltb 300 (length line) h)
 
 pub token_line : (line : List ℕ) → length line ≤ 300 → first_nothing (tokens 0 line) ≡ None → reading line ≡ form_in (length line + 1) (tokens 0 line)
 token_line line h e = short_line line h ∙ ap (by_tokens (length line + 1) (tokens 0 line)) e
-
--- what is read behind a form's word is read of the whole
-pub headed : {before : Cursor} {verb : Verb} {after : Cursor} → Begins before verb after → read_behind verb after ≡ read_from before
-headed {before = before} {verb = verb} {after = after} b =
-    sym
-    (ap (form_in (end_of before)) b.first
-    ∙ cond-true _ _ _ b.opened
-    ∙ ap (by_verb (end_of before) b.word (left after)) b.named
-    ∙ ap (λ end. by_shape verb (left after) (against end (wanted verb) (left after))) (sym b.same_end))
 
 -- a symbol that fits something is no nothing
 fits_some : (item : Item) (place : ℕ) (s : Symbol) (later : Option ℕ) → fits item s ≡ true → stray place s later ≡ later
@@ -55,18 +43,18 @@ err≢ok e = let z : ◌≡◌ {A = ℕ} 0 1 = cc in omega arith
 -- items that are all met leave nothing that is no token
 met_all : (end : ℕ) (is : List Item) (ts : List Placed) → against end is ts ≡ None → first_nothing ts ≡ None
 met_all end [] [] e = refl
-met_all end [] (t ∷ ts) e = absurd (none_some (sym e))
-met_all end (i ∷ is) [] e = absurd (none_some (sym e))
+met_all end [] (t ∷ ts) e = absurd (none-some _ (sym e))
+met_all end (i ∷ is) [] e = absurd (none-some _ (sym e))
 met_all end (i ∷ is) (t ∷ ts) e =
     ⊎_elim (λ fit. fits_some i t.place t.symbol (first_nothing ts) fit ∙ met_all end is ts (sym (cond-true _ _ _ fit) ∙ e))
-    (λ misfit. absurd (none_some (sym e ∙ cond-false _ _ _ misfit))) (cases_Bool (fits i t.symbol))
+    (λ misfit. absurd (none-some _ (sym e ∙ cond-false _ _ _ misfit))) (cases_Bool (fits i t.symbol))
 
 verb_some : (place : ℕ) (s : Symbol) (v : Verb) (later : Option ℕ) → verb_of s ≡ Some v → stray place s later ≡ later
 verb_some place opening v later e = refl
 verb_some place closing v later e = refl
 verb_some place (worded bs) v later e = refl
 verb_some place (number bs) v later e = refl
-verb_some place nothing v later e = absurd (none_some e)
+verb_some place nothing v later e = absurd (none-some _ e)
 
 shaped_all : (v : Verb) (end : ℕ) (ts : List Placed) (f : Form) (o : Option FormFault) → against end (wanted v) ts ≡ o → by_shape v ts o ≡ Ok f → first_nothing ts ≡ None
 shaped_all v end ts f (Some fault) e r = absurd (err≢ok r)

@@ -2,6 +2,7 @@
 -- Assumes nothing.
 use Rattle.std.proofs.Common.{◌≡◌, ℕ, zero, suc, ◌<◌, cond, ◌⊎◌, List, [], ◌∷◌, map, length, get_or, take, Some, None, Option, sym, refl, ap, ◌∙◌, inl, inr, ⊎_elim, arith}
 use Rattle.std.specs.List.{AllByRecursion}
+use Rattle.std.proofs.lemmas.Option.{none-some}
 use Rattle.std.proofs.lemmas.Bool.{cond_both}
 use Rattle.text.specs.Bytes.{sort}
 use Rattle.text.specs.Grammar.{AllTokens, said}
@@ -10,7 +11,6 @@ use Rattle.text.specs.Tokens.{Piece, Placed, Symbol, closing, nothing, number, n
 use Rattle.text.specs.declared.byte.Sort.{Sort}
 use Rattle.text.specs.declared.byte.Sort.TheVariants.{Blank, Close, Foreign, Open, Part}
 use Rattle.text.proofs.Drafts.{Numeric}
-use Rattle.text.proofs.Shapes.{none_some}
 
 -- a token that is a number is read as one
 
@@ -56,7 +56,7 @@ clean_none (t ∷ ts) all = stray_other t.symbol t.place (first_nothing ts) all.
 pub none_clean : (ts : List Placed) → first_nothing ts ≡ None → AllTokens ts
 none_clean [] e = tt
 none_clean (t ∷ ts) e =
-    ⊎_elim (λ stray-here. absurd (none_some (sym e ∙ ap (λ s. stray t.place s (first_nothing ts)) stray-here)))
+    ⊎_elim (λ stray-here. absurd (none-some _ (sym e ∙ ap (λ s. stray t.place s (first_nothing ts)) stray-here)))
     (λ other. (other, none_clean ts (sym (stray_other t.symbol t.place (first_nothing ts) other) ∙ e))) (nothing_or_not t.symbol)
 
 pub stray_first : (ts : List Placed) (k : ℕ) → k < length ts → AllTokens (take k ts) → get_or (said ts) k nothing ≡ nothing
@@ -73,7 +73,7 @@ pub record Stray (ts : List Placed) (place : ℕ) : Type 0 where
   pub there : place ≡ (get_or ts at (placed 0 nothing)).place
 
 pub first_stray : (ts : List Placed) (place : ℕ) → first_nothing ts ≡ Some place → Stray ts place
-first_stray [] place e = absurd (none_some e)
+first_stray [] place e = absurd (none-some _ e)
 first_stray (t ∷ ts) place e =
     ⊎_elim
     (λ here. record { at = 0; among = omega arith; before = tt; none = here; there = one (sym (ap (λ s. stray t.place s (first_nothing ts)) here) ∙ e) })

@@ -1,6 +1,7 @@
 -- Where the tokens of a line stop being those of a form.
 -- Assumes nothing.
 use Rattle.std.proofs.Common.{◌≡◌, ℕ, suc, ◌+◌, ◌<◌, true, ◌⊎◌, List, [], ◌∷◌, length, take, Some, None, Err, Option, sym, refl, ap, ◌∙◌, subst, inl, inr, ⊎_elim, arith}
+use Rattle.std.proofs.lemmas.Option.{none-some}
 use Rattle.std.proofs.lemmas.Bool.{both_ways, cases_Bool, cond-false, cond-true}
 use Rattle.text.specs.Forms.{fits, is_opening, verb_of, wanted}
 use Rattle.text.specs.Grammar.{AllTokens, byte_of, said}
@@ -9,7 +10,6 @@ use Rattle.text.specs.Tokens.{Placed, Symbol, closing, nothing, number, opening,
 use Rattle.text.specs.declared.fault.FormFault.TheVariants.{NoForm}
 use Rattle.text.specs.declared.form.Item.{Item}
 use Rattle.text.specs.declared.form.Verb.{Verb}
-use Rattle.text.proofs.Shapes.{none_some}
 
 fault_other : (s : Symbol) (place : ℕ) → (s ≡ nothing → ⊥) → fault_by s place ≡ NoForm (place + 1)
 fault_other opening place h = refl
@@ -106,7 +106,7 @@ shape end (t ∷ []) all =
 shape end (t ∷ u ∷ ts) all =
     ⊎_elim
     (λ opens. ⊎_elim
-    (λ none. broken_form 1 (omega arith) opens (λ l. none_some (sym none ∙ l.1.1))
+    (λ none. broken_form 1 (omega arith) opens (λ l. none-some _ (sym none ∙ l.1.1))
     (cond-true _ _ _ opens ∙ ap (by_verb end u ts) none ∙ ap Err (fault_other u.symbol u.place all.1.0)))
     (λ some. behind_word end t u ts some.0 opens some.1 (way end (wanted some.0) ts all.1.1))
     (cases_option (verb_of u.symbol)))
