@@ -91,10 +91,10 @@ impl Draft {
         ensures value { result ≡ hold field (symbol_of token.entry) self }
     {
         match token {
-            Token::Word(word) => match class_named(word) {
-                Some(class) => Some(Draft { class, ..self }),
-                None => Some(self),
-            },
+            Token::Word(word) => Some(match class_named(word) {
+                Some(class) => Draft { class, ..self },
+                None => self,
+            }),
             Token::Number(number) => self.hold_number(field, number.value()),
             Token::Open | Token::Close => Some(self),
         }

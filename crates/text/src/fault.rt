@@ -4,7 +4,7 @@ ghost use Rattle.text.specs.declared.fault.Fault.TheVariants.{Book as ByBook, Fo
 ghost use Rattle.text.specs.declared.fault.FormFault.TheVariants.{Text as InText};
 ghost use Rattle.text.specs.Fault.{byte as byte_of, layer as layer_of, number as number_of};
 
-#[derive(Clone, Copy)]
+#[derive(Clone, Copy, Debug, PartialEq, Eq)]
 pub enum TextFault {
     // the input has more than 65,536 bytes
     LongInput,
@@ -14,7 +14,7 @@ pub enum TextFault {
     NoToken(usize),
 }
 
-#[derive(Clone, Copy)]
+#[derive(Clone, Copy, Debug, PartialEq, Eq)]
 pub enum FormFault {
     Text(TextFault),
     // the tokens are no form; the first byte of the wrong one, one past the line where it ends early
@@ -29,7 +29,7 @@ pub enum Fault {
     Book(book::Refusal),
 }
 
-#[derive(Clone, Copy)]
+#[derive(Clone, Copy, Debug, PartialEq, Eq)]
 pub enum Layer {
     Text,
     Form,
@@ -57,9 +57,11 @@ impl Fault {
         match self {
             Fault::Form(FormFault::Text(TextFault::LongInput)) => 0,
             Fault::Form(FormFault::Text(TextFault::LongLine)) => 301,
-            Fault::Form(FormFault::Text(TextFault::NoToken(at))) => at,
-            Fault::Form(FormFault::NoForm(at)) => at,
-            Fault::Form(FormFault::OutOfRange(at)) => at,
+            Fault::Form(
+                FormFault::Text(TextFault::NoToken(at))
+                | FormFault::NoForm(at)
+                | FormFault::OutOfRange(at),
+            ) => at,
             Fault::Book(_) => 1,
         }
     }

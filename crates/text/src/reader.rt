@@ -26,7 +26,7 @@ impl<'a> Cursor<'a> {
     ghost use Rattle.text.specs.Reader.{Expected, FieldRead, FieldsRead, Finished, HeadRead};
 
     // The next token, where an item is wanted.
-    fn expect(&mut self, item: Item) -> Result<Next<'a>, FormFault>
+    fn accept(&mut self, item: Item) -> Result<Next<'a>, FormFault>
         ensures { Expected self.old item result self.new }
     {
         match self.next_token()? {
@@ -40,10 +40,10 @@ impl<'a> Cursor<'a> {
     fn read_field(&mut self, field: Field) -> Result<Next<'a>, FormFault>
         ensures { FieldRead self.old field result self.new }
     {
-        self.expect(Item::Open)?;
-        self.expect(Item::Name(field))?;
-        let value = self.expect(Item::Value(field))?;
-        self.expect(Item::Close)?;
+        self.accept(Item::Open)?;
+        self.accept(Item::Name(field))?;
+        let value = self.accept(Item::Value(field))?;
+        self.accept(Item::Close)?;
         Ok(value)
     }
 
@@ -63,7 +63,7 @@ impl<'a> Cursor<'a> {
     fn read_head(&mut self) -> Result<Verb, FormFault>
         ensures { HeadRead self.old result self.new }
     {
-        self.expect(Item::Open)?;
+        self.accept(Item::Open)?;
         let Some(word) = self.next_token()? else {
             return Err(FormFault::NoForm(self.end()));
         };
@@ -74,7 +74,7 @@ impl<'a> Cursor<'a> {
     fn finish(mut self) -> Result<(), FormFault>
         ensures { Finished self.entry result }
     {
-        self.expect(Item::Close)?;
+        self.accept(Item::Close)?;
         match self.next_token()? {
             None => Ok(()),
             Some(next) => Err(FormFault::NoForm(next.place + 1)),
@@ -88,10 +88,9 @@ fn read_behind(verb: Verb, mut part: Cursor) -> Result<Form, FormFault>
 {
     let gathered = part.read_fields(fields_of(verb))?;
     part.finish()?;
-    match gathered {
-        Ok(draft) => Ok(draft.form(verb)),
-        Err(byte) => Err(FormFault::OutOfRange(byte)),
-    }
+    gathered
+        .map(|draft| draft.form(verb))
+        .map_err(FormFault::OutOfRange)
 }
 
 // What the tokens of a line say, or the fault of the first that is wrong.
