@@ -34,13 +34,7 @@ Numeric nothing = Unit {0}
 -- what is drawn meets its items
 
 name_fits : (f : Field) → is_word (field_word f) (worded (field_word f)) ≡ true
-name_fits OfClass = refl
-name_fits Asset = refl
-name_fits Holder = refl
-name_fits Award = refl
-name_fits Kw = refl
-name_fits IsReady = refl
-name_fits Cents = refl
+name_fits f = (bytes_eq-Decides (field_word f) (field_word f)).1 refl
 
 mark_fits : (f : Field) (x : Held f) → is_value f (mark f x) ≡ true
 mark_fits OfClass Delivery = refl

@@ -93,7 +93,7 @@ fn read_behind(verb: Verb, mut part: Cursor) -> Result<Form, FormFault>
         .map_err(FormFault::OutOfRange)
 }
 
-// What the tokens of a line say, or the fault of the first that is wrong.
+// What the tokens of a line say, or the fault of the first that is wrong. The rest of the line, from its middle, is handed on.
 fn read_tokens(mut line: Cursor) -> Result<Form, FormFault>
     ensures { result ≡ read_from line.entry }
 {
