@@ -1,5 +1,4 @@
 mod Drafts
-mod Figures
 mod Lexing
 mod Lines
 mod Lining
@@ -7,7 +6,6 @@ mod Numbers
 mod Once
 mod Pieces
 mod Printed
-mod Putting
 mod Ranges
 mod Readings
 mod Runs

@@ -1,60 +1,56 @@
 -- The lines of an input, one after the other.
 -- Assumes nothing.
-use Rattle.std.proofs.Common.{◌≡◌, ℕ, zero, suc, ◌+◌, ◌<◌, ◌≤◌, max, List, [], ◌∷◌, length, get_or, take, drop, sym, refl, ap, ◌∙◌, subst, ⊎_elim, arith}
-use Rattle.std.proofs.lemmas.List.{at_drop_all, at_drop_more}
-use Rattle.std.proofs.lemmas.Bool.{cases_eq, cases_lt, cond-false, cond-true, eq-eqb, ne_eqb}
+use Rattle.std.proofs.Common.{◌≡◌, ℕ, zero, suc, ◌+◌, ◌-◌, ◌<◌, ◌≤◌, max, Bool, false, true, List, [], ◌∷◌, eqb, cond, count_by, length, get_or, take, drop, Some, None, sym, refl, ap, ◌∙◌, ⊎_elim, arith}
+use Rattle.std.proofs.lemmas.Bool.{cases_Bool, cases_lt, cond-false, cond-true, lt-ltb}
+use Rattle.std.proofs.lemmas.List.{take_rest}
+use Rattle.std.proofs.lemmas.List.Quantifiers.{position-Some}
+use Rattle.std.proofs.lemmas.List.Sums.{fails_before_first, sum_by-cons}
+use Rattle.std.specs.List.{position, position_or_len}
 use Rattle.text.specs.Session.{lines, onto}
+use Rattle.text.proofs.Shapes.{none_some}
 
 length-onto : (b : ℕ) (ls : List (List ℕ)) → length (onto b ls) ≡ max 1 (length ls)
 length-onto b [] = refl
 length-onto b (l ∷ ls) = omega arith
 
--- a byte 10 ends a line
-pub at_end : (input : List ℕ) (i : ℕ) → i < length input → get_or input i 0 ≡ 10 → lines (drop i input) ≡ [] ∷ lines (drop (i + 1) input)
-at_end input i h e = at_drop_more lines input i 0 h ∙ cond-true _ _ _ (eq-eqb (get_or input i 0) 10 e)
-
--- any other begins the line that goes on behind it
-pub at_byte : (input : List ℕ) (i : ℕ) → i < length input → (get_or input i 0 ≡ 10 → ⊥) → lines (drop i input) ≡ onto (get_or input i 0) (lines (drop (i + 1) input))
-at_byte input i h other = at_drop_more lines input i 0 h ∙ cond-false _ _ _ (ne_eqb (get_or input i 0) 10 other)
-
-pub many_at_end : (input : List ℕ) (i : ℕ) → i < length input → get_or input i 0 ≡ 10 → length (lines (drop i input)) ≡ 1 + length (lines (drop (i + 1) input))
-many_at_end input i h e = ap length (at_end input i h e) ∙ omega arith
-
-pub many_at_byte : (input : List ℕ) (i : ℕ) → i < length input → (get_or input i 0 ≡ 10 → ⊥) → length (lines (drop i input)) ≡ max 1 (length (lines (drop (i + 1) input)))
-many_at_byte input i h other = ap length (at_byte input i h other) ∙ length-onto (get_or input i 0) (lines (drop (i + 1) input))
-
-pub none_left : (input : List ℕ) (i : ℕ) → length input ≤ i → lines (drop i input) ≡ []
-none_left input i h = at_drop_all lines input i h
-
--- a line of n bytes
-pub cut : (n : ℕ) (input : List ℕ) (at : ℕ) → at < length input → at + n ≤ length input → ((k : ℕ) → at ≤ k → k < at + n → get_or input k 0 ≡ 10 → ⊥)
-    → (at + n < length input → get_or input (at + n) 0 ≡ 10) → lines (drop at input) ≡ take n (drop at input) ∷ lines (drop (at + n + 1) input)
-cut zero input at some fits others stops =
-    let same : at + 0 ≡ at = omega arith in
-    at_end input at some (subst (λ k. get_or input k 0 ≡ 10) same (stops (omega arith)))
-    ∙ ap (λ k. [] ∷ lines (drop (k + 1) input)) (sym same)
-cut (suc n) input at some fits others stops =
-    let b = get_or input at 0 in
-    let one_on : at + 1 + n ≡ at + suc n = omega arith in
-    let front : take (suc n) (drop at input) ≡ b ∷ take n (drop (at + 1) input) = at_drop_more (take (suc n)) input at 0 some in
-    let first = at_byte input at some (others at (omega arith) (omega arith)) in
+-- an input has at most one line more than bytes 10
+pub counted : (input : List ℕ) → length (lines input) ≤ 1 + count_by (λ b. eqb b 10) input
+counted [] = omega arith
+counted (b ∷ bs) =
+    let rest = counted bs in
+    let one : ℕ = 1 in
+    let none : ℕ = 0 in
+    let first = sum_by-cons (λ b. cond (eqb b 10) 1 0) b bs in
     ⊎_elim
-    (λ more.
-    first
-    ∙ ap (onto b)
-    (cut n input (at + 1) more (omega arith) (λ k low high. others k (omega arith) (omega arith))
-    (λ lt. subst (λ k. get_or input k 0 ≡ 10) (sym one_on) (stops (omega arith))))
-    ∙ ap (λ k. (b ∷ take n (drop (at + 1) input)) ∷ lines (drop (k + 1) input)) one_on
-    ∙ ap (λ l. l ∷ lines (drop (at + suc n + 1) input)) (sym front))
-    (λ last.
-    let rest : drop (at + 1) input ≡ [] = at_drop_all (λ xs. xs) input (at + 1) last in
-    let nothing_more : n ≡ 0 = omega arith in
-    first
-    ∙ ap (λ ls. onto b (lines ls)) rest
-    ∙ ap (λ l. l ∷ []) (sym (front ∙ ap (λ m. b ∷ take m (drop (at + 1) input)) nothing_more))
-    ∙ ap (λ ls. take (suc n) (drop at input) ∷ ls) (sym (none_left input (at + suc n + 1) (omega arith))))
-    (cases_lt (at + 1) (length input))
+    (λ e. omega (arith, first, ap length (cond-true (eqb b 10) ([] ∷ lines bs) (onto b (lines bs)) e), cond-true (eqb b 10) one none e, rest))
+    (λ e. omega (arith, first, ap length (cond-false (eqb b 10) ([] ∷ lines bs) (onto b (lines bs)) e), length-onto b (lines bs), cond-false (eqb b 10) one none e, rest))
+    (cases_Bool (eqb b 10))
 
-pub some_left : (input : List ℕ) (at : ℕ) → at < length input → 1 ≤ length (lines (drop at input))
-some_left input at h =
-    ⊎_elim (λ e. omega (arith, many_at_end input at h e)) (λ other. omega (arith, many_at_byte input at h other)) (cases_eq (get_or input at 0) 10)
+-- byte 10 ends the first line
+pub cut : (bs : List ℕ) (n : ℕ) → n < length bs → eqb (get_or bs n 0) 10 ≡ true → ((k : ℕ) → k < n → eqb (get_or bs k 0) 10 ≡ false)
+    → lines bs ≡ take n bs ∷ lines (drop (suc n) bs)
+cut [] n some stops others = absurd (omega arith)
+cut (b ∷ bs) zero some stops others = cond-true (eqb b 10) _ _ stops
+cut (b ∷ bs) (suc n) some stops others =
+    cond-false (eqb b 10) _ _ (others 0 (omega arith)) ∙ ap (onto b) (cut bs n (omega arith) stops (λ k h. others (suc k) (omega arith)))
+
+-- no byte 10 ends the last line
+uncut : (bs : List ℕ) → 0 < length bs → ((k : ℕ) → k < length bs → eqb (get_or bs k 0) 10 ≡ false) → lines bs ≡ bs ∷ []
+uncut [] some others = absurd (omega arith)
+uncut (b ∷ []) some others = cond-false (eqb b 10) _ _ (others 0 (omega arith))
+uncut (b ∷ c ∷ bs) some others =
+    cond-false (eqb b 10) _ _ (others 0 (omega arith)) ∙ ap (onto b) (uncut (c ∷ bs) (omega arith) (λ k h. others (suc k) (omega arith)))
+
+pub first_cut : (bs : List ℕ) (n : ℕ) → position (λ b. eqb b 10) bs ≡ Some n → lines bs ≡ take n bs ∷ lines (take (length bs - (n + 1)) (drop (n + 1) bs))
+first_cut bs n found =
+    let at = position-Some (λ b. eqb b 10) bs n 0 found in
+    let one_on : suc n ≡ n + 1 = omega arith in
+    cut bs n at.0 at.1 at.2 ∙ ap (λ k. take n bs ∷ lines (drop k bs)) one_on ∙ ap (λ xs. take n bs ∷ lines xs) (sym (take_rest bs (n + 1)))
+
+pub first_uncut : (bs : List ℕ) → 0 < length bs → position (λ b. eqb b 10) bs ≡ None → lines bs ≡ bs ∷ []
+first_uncut bs some none =
+    let p : ℕ → Bool = λ b. eqb b 10 in
+    ⊎_elim
+    (λ found. absurd (none_some (sym none ∙ cond-true _ _ _ (lt-ltb (position_or_len p bs) (length bs) found))))
+    (λ past. uncut bs some (λ k h. fails_before_first p bs k 0 (omega arith)))
+    (cases_lt (position_or_len p bs) (length bs))

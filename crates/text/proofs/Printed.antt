@@ -1,4 +1,4 @@
--- A line that was written into a page of the least size, and is taken out of it again.
+-- The transcript, as lines are put behind what is printed.
 -- Assumes nothing.
 use Rattle.std.proofs.Common.{◌≡◌, ℕ, ◌+◌, ◌*◌, ◌<◌, ◌≤◌, List, [], ◌++◌, length, get_or, take, drop, Ok, vec_items, vec_len, vec_capacity, Vec, sym, ap, ◌∙◌, subst, append_assoc, arith}
 use Rattle.std.specs.declared.alloc.Global.{Global}
@@ -8,17 +8,6 @@ use Rattle.book.specs.declared.row.Row.{Row}
 use Rattle.text.specs.Line.{row_line}
 use Rattle.text.specs.Page.{Written, page_least}
 use Rattle.text.specs.Transcript.{Added}
-
-pub taken_out : {line was page : List ℕ} {n : ℕ} → Written line was page (Ok n) → take n page ≡ line
-taken_out {line = line} {was = was} {n = n} w = ap (take n) w.after ∙ take_at line (drop (length line) was) n (sym w.value)
-
-pub short : {line was page : List ℕ} {n : ℕ} → Written line was page (Ok n) → length page ≡ page_least → n ≤ page_least
-short {line = line} {was = was} {n = n} w h = omega (arith, w.value, ap length w.after, length-append line (drop (length line) was))
-
--- the same, put behind what is printed
-pub added_line : {line was page : List ℕ} {n : ℕ} {a b : Vec ℕ Global} → Written line was page (Ok n) → length page ≡ page_least
-    → vec_items b ≡ vec_items a ++ take n page → vec_capacity a ≤ vec_capacity b → Added 1 line a b
-added_line {a = a} w h items room = record { items = items ∙ ap (λ bs. vec_items a ++ bs) (taken_out w); few = omega (arith, w.value, short w h); room = room }
 
 -- more, put behind that
 pub added_more : {k m : ℕ} {bs cs : List ℕ} {a b c : Vec ℕ Global} → Added k bs a b → Added m cs b c → Added (k + m) (bs ++ cs) a c

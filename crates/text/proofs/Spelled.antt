@@ -2,8 +2,6 @@
 use Rattle.std.proofs.Common.{◌≡◌, ℕ, List, [], ◌∷◌, ◌++◌, codes, sym, refl, ap, ◌∙◌, append_assoc}
 use Rattle.std.specs.List.{flat_map}
 use Rattle.text.specs.Line.{field, line}
-use Rattle.text.specs.Page.{Put}
-use Rattle.text.proofs.Putting.{put_same}
 
 -- the fields that are still to come, each with its value by itself, and the end of the line
 abbrev pub rest : List (List ℕ × List ℕ) → List ℕ
@@ -21,6 +19,8 @@ rest_is ((name, value) ∷ fields) =
     ∙ regroup (opened ++ codes ")") (flat_map field fields) (codes ")") (10 ∷ [])
 
 -- the pieces of a line, one behind the other, are the line
-pub put_line : (word : List ℕ) (fields : List (List ℕ × List ℕ)) {a b : List ℕ} {at e : ℕ} → Put a at (codes "(" ++ word ++ rest fields) b e → Put a at (line word fields) b e
+pub spelled : (word : List ℕ) (fields : List (List ℕ × List ℕ)) {a b : List ℕ} → a ≡ [] → b ≡ a ++ (codes "(" ++ word ++ rest fields) → b ≡ line word fields
 unfolding line
-put_line word fields p = put_same (ap (λ xs. codes "(" ++ word ++ xs) (rest_is fields) ∙ regroup (codes "(" ++ word) (flat_map field fields) (codes ")") (10 ∷ [])) p
+spelled word fields empty p =
+    p ∙ ap (λ xs. xs ++ (codes "(" ++ word ++ rest fields)) empty
+    ∙ ap (λ xs. codes "(" ++ word ++ xs) (rest_is fields) ∙ regroup (codes "(" ++ word) (flat_map field fields) (codes ")") (10 ∷ [])

@@ -19,7 +19,6 @@ use Rattle.text.specs.declared.fault.Fault.{Fault}
 use Rattle.text.specs.declared.fault.Fault.TheVariants.{Book as ByBook, Form as InForm}
 use Rattle.text.specs.declared.fault.FormFault.TheVariants.{Text as InText}
 use Rattle.text.specs.declared.fault.TextFault.TheVariants.{LongInput}
-use Rattle.text.proofs.Lining.{cut}
 use Rattle.text.proofs.Once.{only_one}
 
 module _ {serves : ℕ} {rule : ℕ → List ℕ → List ℕ} {pays : Stand → ℤ → ℤ} {before : State} where
@@ -43,16 +42,9 @@ module _ {serves : ℕ} {rule : ℕ → List ℕ → List ℕ} {pays : Stand →
       (h, subst (λ s. Session serves rule pays before (ls ++ l ∷ []) (out ++ text (length ls + 1) (Err (InForm fault)) rows) h s) (sym c.same) (faulty x l fault c.reads))
   session_more l (Err (ByBook why)) rows x c = entered_more x c
 
-  pub told_more : {input : List ℕ} {at n : ℕ} {s s' : State} {a b : Vec ℕ Global} (end : ℕ) → LinesTold serves rule pays before input at n s a
-      → at < length input → at ≤ end → end ≤ length input → ((k : ℕ) → at ≤ k → k < end → get_or input k 0 ≡ 10 → ⊥) → (end < length input → get_or input end 0 ≡ 10)
-      → LineTold serves rule pays (n + 1) (take (end - at) (drop at input)) s a s' b
-      → LinesTold serves rule pays before input (end + 1) (n + 1) s' b
-  told_more {input = input} {at = at} {n = n} {s' = s'} {a = a} {b = b} end x some low high others stops t =
-      let l = take (end - at) (drop at input) in
-      let whole : at + (end - at) ≡ end = omega arith in
-      let here : lines (drop at input) ≡ l ∷ lines (drop (end + 1) input) =
-      cut (end - at) input at some (omega arith) (λ k lo hi. others k lo (omega arith)) (λ lt. subst (λ k. get_or input k 0 ≡ 10) (sym whole) (stops (omega arith)))
-      ∙ ap (λ k. l ∷ lines (drop (k + 1) input)) whole in
+  pub told_more : {all left rest : List (List ℕ)} {l : List ℕ} {n m : ℕ} {s s' : State} {a b : Vec ℕ Global} → LinesTold serves rule pays before all left n s a
+      → left ≡ l ∷ rest → m ≡ n + 1 → LineTold serves rule pays (n + 1) l s a s' b → LinesTold serves rule pays before all rest m s' b
+  told_more {rest = rest} {l = l} {n = n} {s' = s'} {a = a} {b = b} x here one_on t =
       let next = session_more l t.answer t.rows x.session t.came in
       let items : vec_items b ≡ vec_items a ++ text (length x.told + 1) t.answer t.rows =
       t.added.items ∙ ap (λ m. vec_items a ++ text (m + 1) t.answer t.rows) (sym x.count) in
@@ -60,8 +52,8 @@ module _ {serves : ℕ} {rule : ℕ → List ℕ → List ℕ} {pays : Stand →
         told = x.told ++ l ∷ [];
         made = next.0;
         session = subst (λ bs. Session serves rule pays before (x.told ++ l ∷ []) bs next.0 s') (sym items) next.1;
-        rest = append_assoc x.told (l ∷ []) (lines (drop (end + 1) input)) ∙ ap (λ ls. x.told ++ ls) (sym here) ∙ x.rest;
-        count = length_push x.told l ∙ ap (λ m. m + 1) x.count;
+        whole = append_assoc x.told (l ∷ []) rest ∙ ap (λ ls. x.told ++ ls) (sym here) ∙ x.whole;
+        count = length_push x.told l ∙ ap (λ m. m + 1) x.count ∙ sym one_on;
         room = omega (
           arith,
           t.added.few,

@@ -24,8 +24,8 @@ use Rattle.text.specs.declared.form.Form.{Form}
 
 abbrev pub shown : Answer → List Row → List ℕ
 shown Silent rows = []
-shown (Invoice asset cents) rows = invoice_line asset cents
-shown (Closed count period residues) rows = flat_map row_line (take count rows) ++ closed_line period residues
+shown (Invoice due) rows = invoice_line due.asset due.cents
+shown (Closed count closed) rows = flat_map row_line (take count rows) ++ closed_line closed.period closed.residues
 
 abbrev pub text : ℕ → Result Answer Fault → List Row → List ℕ
 text n (Ok answer) rows = shown answer rows
@@ -33,8 +33,8 @@ text n (Err fault) rows = fault_line n fault
 
 abbrev pub height : Answer → ℕ
 height Silent = 1
-height (Invoice asset cents) = 1
-height (Closed count period residues) = count + 1
+height (Invoice due) = 1
+height (Closed count closed) = count + 1
 
 abbrev pub heights : {A : Type 0} → Result Answer A → ℕ
 heights (Ok answer) = height answer

@@ -1,18 +1,11 @@
 // What comes of a line.
-use book::ByClass;
+use crate::print::{ClosedPeriod, Invoice};
 
 #[derive(Clone, Copy)]
 pub(crate) enum Answer {
     // nothing is printed
     Silent,
-    Invoice {
-        asset: u64,
-        cents: u64,
-    },
-    // so many rows, of the period with this number
-    Closed {
-        rows: usize,
-        period: u64,
-        residues: ByClass,
-    },
+    Invoice(Invoice),
+    // so many rows, and the end of the close
+    Closed { rows: usize, period: ClosedPeriod },
 }

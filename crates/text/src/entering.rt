@@ -2,14 +2,15 @@
 ghost use Rattle.book.specs.Book.{view};
 ghost use Rattle.text.specs.Answer.{Came, Made, Roomy};
 ghost use Rattle.text.specs.Entering.{booked, quiet};
-ghost use Rattle.std.specs.Prelude.{◌≡◌, List, length};
-ghost use Rattle.text.specs.Session.{row_places};
+ghost use Rattle.std.specs.Prelude.{◌≡◌, List};
 ghost use Rattle.text.specs.declared.form.Form.TheVariants.{Close, Term};
 
 use crate::answer::Answer;
 use crate::fault::Fault;
 use crate::form::Form;
+use crate::print::{ClosedPeriod, Invoice};
 use crate::reader::read_line;
+use crate::transcript::ROW_PLACES;
 use book::{Book, Refusal, Row};
 use payment::PaymentRule;
 use sharing::Seats;
@@ -18,10 +19,7 @@ use sharing::Seats;
 fn silent(r: Result<(), Refusal>) -> Result<Answer, Refusal>
     ensures value { result ≡ quiet r }
 {
-    match r {
-        Ok(()) => Ok(Answer::Silent),
-        Err(why) => Err(why),
-    }
+    r.map(|()| Answer::Silent)
 }
 
 // The term of a year; its invoice is printed where it is above 0.
@@ -35,43 +33,37 @@ fn enter_term<R: Seats<N>, P: PaymentRule, const N: usize>(
     ensures made { (rows : List Row) → Made N R.SharingRule.shares P.PaymentRule.pays (Term asset award commitment ready) (view book.old) (booked result) rows (view book.new) }
     ensures room { Roomy result (view book.old) (view book.new) }
 {
-    match book.term(asset, award, commitment, ready) {
-        Ok(cents) => {
-            if cents == 0 {
-                Ok(Answer::Silent)
-            } else {
-                Ok(Answer::Invoice { asset, cents })
-            }
-        }
-        Err(why) => Err(why),
+    let cents = book.term(asset, award, commitment, ready)?;
+    if cents == 0 {
+        return Ok(Answer::Silent);
     }
+    Ok(Answer::Invoice(Invoice { asset, cents }))
 }
 
 fn enter_close<R: Seats<N>, P: PaymentRule, const N: usize>(
     book: &mut Book<R, P, N>,
-    rows: &mut [Row],
+    rows: &mut [Row; ROW_PLACES],
 ) -> Result<Answer, Refusal>
-    requires { length rows.old ≡ row_places }
     ensures made { Made N R.SharingRule.shares P.PaymentRule.pays Close (view book.old) (booked result) rows.new (view book.new) }
     ensures room { Roomy result (view book.old) (view book.new) }
 {
-    match book.close(rows) {
-        Ok(closed) => Ok(Answer::Closed {
-            rows: closed.rows,
-            period: book.closes(),
-            residues: closed.residues,
-        }),
-        Err(why) => Err(why),
-    }
+    let closed = book.close(rows)?;
+    let period = ClosedPeriod {
+        period: book.closes(),
+        residues: closed.residues,
+    };
+    Ok(Answer::Closed {
+        rows: closed.rows,
+        period,
+    })
 }
 
 // Makes the call of a form. The rows of a close are left in `rows`.
 fn enter<R: Seats<N>, P: PaymentRule, const N: usize>(
     book: &mut Book<R, P, N>,
     form: Form,
-    rows: &mut [Row],
+    rows: &mut [Row; ROW_PLACES],
 ) -> Result<Answer, Refusal>
-    requires { length rows.old ≡ row_places }
     ensures made { Made N R.SharingRule.shares P.PaymentRule.pays form (view book.old) (booked result) rows.new (view book.new) }
     ensures room { Roomy result (view book.old) (view book.new) }
 {
@@ -104,9 +96,8 @@ fn enter<R: Seats<N>, P: PaymentRule, const N: usize>(
 pub(crate) fn answer<R: Seats<N>, P: PaymentRule, const N: usize>(
     book: &mut Book<R, P, N>,
     line: &[u8],
-    rows: &mut [Row],
+    rows: &mut [Row; ROW_PLACES],
 ) -> Result<Answer, Fault>
-    requires { length rows.old ≡ row_places }
     ensures came { Came N R.SharingRule.shares P.PaymentRule.pays line.now (view book.old) result rows.new (view book.new) }
     ensures room { Roomy result (view book.old) (view book.new) }
 {

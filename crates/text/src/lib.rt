@@ -7,6 +7,7 @@ mod draft;
 mod entering;
 mod fault;
 mod form;
+mod input;
 mod lexer;
 mod page;
 mod print;
@@ -20,7 +21,8 @@ mod words;
 
 pub use fault::{Fault, FormFault, Layer, TextFault};
 pub use form::Form;
-pub use print::{PAGE_LEAST, write_closed, write_fault, write_invoice, write_row};
+pub use page::{Line, PAGE_LEAST, write};
+pub use print::{ClosedPeriod, Invoice, RefusedLine};
 pub use reader::read_line;
 pub use refusal::Refusal;
 pub use sessions::{INPUT_MOST, session, settle};

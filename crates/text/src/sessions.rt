@@ -1,21 +1,21 @@
 // A session: the lines of an input, told to a book one after the other.
-ghost use Rattle.std.specs.Prelude.{◌≡◌, ℕ, ◌+◌, ◌-◌, ◌*◌, ◌<◌, ◌≤◌, List, [], length, IfOk, vec_len, vec_capacity, MatchResult, ◌≢◌, slice_index};
+ghost use Rattle.std.specs.Prelude.{◌≡◌, ◌+◌, ◌≤◌, [], length, IfOk, vec_len, vec_capacity, MatchResult};
 ghost use Rattle.book.specs.Book.{view};
 ghost use Rattle.book.specs.History.{History};
-ghost use Rattle.book.specs.Limits.{closes_most};
 ghost use Rattle.text.specs.Line.{fault_line};
-ghost use Rattle.text.specs.Page.{page_least};
 ghost use Rattle.text.specs.declared.fault.Fault.TheVariants.{Form as InForm};
 ghost use Rattle.text.specs.declared.fault.FormFault.TheVariants.{Text as InText};
 ghost use Rattle.text.specs.declared.fault.TextFault.TheVariants.{LongInput};
-ghost use Rattle.text.specs.Session.{Session, input_most, lines, row_places};
+ghost use Rattle.text.specs.Session.{Session, input_most, lines};
 ghost use Rattle.text.specs.Settling.{CarriedOn, Settled};
 ghost use Rattle.text.specs.Telling.{LineTold, needed};
 
 use crate::entering::answer;
 use crate::fault::{Fault, FormFault, TextFault};
-use crate::print::PAGE_LEAST;
-use crate::transcript::{print_answer, print_fault};
+use crate::input::Lines;
+use crate::page::PAGE_LEAST;
+use crate::print::RefusedLine;
+use crate::transcript::{ROW_PLACES, print, print_answer};
 use book::{Book, ByClass, CLOSES_MOST, Row};
 use payment::PaymentRule;
 use sharing::Seats;
@@ -38,33 +38,12 @@ const BLANK: Row = Row {
     balance: 0,
 };
 
-// Where the line from a place on ends: at a byte 10, or where the input ends.
-fn line_end(input: &[u8], from: usize) -> usize
-    requires { from ≤ length input.now }
-    ensures bound { (from ≤ result) × (result ≤ length input.now) }
-    ensures all { (k : ℕ) → from ≤ k → k < result → slice_index input.now k ≢ 10 }
-    ensures stops { result < length input.now → slice_index input.now result ≡ 10 }
-{
-    for i in from..input.len() {
-        if input[i] == b'\n' {
-            return i;
-        }
-    }
-    input.len()
-}
-
 // A number of lines that is not exceeded.
 fn most_lines(input: &[u8]) -> usize
     requires { length input.now ≤ input_most }
     ensures bound { (length (lines input.now) ≤ result) × (result ≤ input_most + 1) }
 {
-    let mut n = 1;
-    for b in input {
-        if *b == b'\n' {
-            n += 1;
-        }
-    }
-    n
+    1 + input.iter().filter(|b| **b == b'\n').count()
 }
 
 // Tells one line, and prints what comes of it.
@@ -73,14 +52,13 @@ fn tell_line<R: Seats<N>, P: PaymentRule, const N: usize>(
     out: &mut Vec<u8>,
     number: usize,
     line: &[u8],
-    rows: &mut [Row],
-    page: &mut [u8],
+    rows: &mut [Row; ROW_PLACES],
 )
-    requires { (length rows.old ≡ row_places) × ((length page.old ≡ page_least) × (vec_len out.old + needed 1 (view book.old) ≤ vec_capacity out.old)) }
+    requires { vec_len out.old + needed 1 (view book.old) ≤ vec_capacity out.old }
     ensures told { LineTold N R.SharingRule.shares P.PaymentRule.pays number line.now (view book.old) out.old (view book.new) out.new }
 {
     let answered = answer(book, line, rows);
-    print_answer(out, page, number, answered, rows);
+    print_answer(out, number, answered, rows);
 }
 
 // Tells all lines, with memory for all that they print.
@@ -92,15 +70,9 @@ fn tell_lines<R: Seats<N>, P: PaymentRule, const N: usize>(
     requires { (out.old.items ≡ []) × ((length input.now ≤ input_most) × (vec_len out.old + needed (length (lines input.now)) (view book.old) ≤ vec_capacity out.old)) }
     ensures told { (h : History) × Session N R.SharingRule.shares P.PaymentRule.pays (view book.old) (lines input.now) out.new.items h (view book.new) }
 {
-    let mut rows = [BLANK; 64];
-    let mut page = [0; 300];
-    let mut at = 0;
-    let mut number = 0;
-    while at < input.len() {
-        let end = line_end(input, at);
-        number += 1;
-        tell_line(book, out, number, &input[at..end], &mut rows, &mut page);
-        at = end + 1;
+    let mut rows = [BLANK; ROW_PLACES];
+    for (told, line) in Lines(input).enumerate() {
+        tell_line(book, out, told + 1, line, &mut rows);
     }
 }
 
@@ -113,7 +85,7 @@ fn room_for<R: Seats<N>, P: PaymentRule, const N: usize>(
     ensures value { result ≡ needed lines (view book.now) }
 {
     let closes = CLOSES_MOST.saturating_sub(book.closes()) as usize;
-    (lines + 64 * closes) * PAGE_LEAST
+    (lines + ROW_PLACES * closes) * PAGE_LEAST
 }
 
 // Tells a whole input to a book, and answers the transcript. Memory is asked for before the first line is told.
@@ -137,13 +109,8 @@ fn unread(heap: Global) -> Result<Vec<u8>, AllocError>
     ensures made { IfOk result (λ out. out.items ≡ fault_line 0 (InForm (InText LongInput))) }
 {
     let mut out = Vec::with_capacity(heap, PAGE_LEAST)?;
-    let mut page = [0; 300];
-    print_fault(
-        &mut out,
-        &mut page,
-        0,
-        Fault::Form(FormFault::Text(TextFault::LongInput)),
-    );
+    let fault = Fault::Form(FormFault::Text(TextFault::LongInput));
+    print(&mut out, &RefusedLine { line: 0, fault });
     Ok(out)
 }
 

@@ -1,50 +1,33 @@
-use Rattle.std.proofs.Common.{[], ◌++◌, vec_items, sym, refl, ap, ◌∙◌, subst, arith, rules}
+use Rattle.std.proofs.Common.{◌≡◌, ◌+◌, [], ◌∷◌, ◌++◌, vec_items, vec_len, vec_capacity, ◌≤◌, length, sym, ap, ◌∙◌, subst, rules}
+use Rattle.std.specs.Iterator.Adapters.{enumerate_count, enumerate_source}
 use Rattle.std.proofs.lemmas.List.{append-nil}
 use Rattle.book.specs.Book.{view}
-use Rattle.text.specs.Session.{Session, begun}
-use Rattle.text.proofs.Lining.{none_left, some_left}
+use Rattle.text.specs.Session.{Session, begun, lines}
+use Rattle.text.specs.Telling.{LineTold, needed}
 use Rattle.text.proofs.Tellings.{told_more}
 use Rattle.text.proofs.sessions.tell_lines.Goals as goal
 
-pub loop-at-init : goal.loop-at-init
-loop-at-init g c = (
-  record {
-    told = [];
-    made = [];
-    session = subst (λ bs. Session g.row.N g.R.SharingRule.shares g.P.PaymentRule.pays (view c.args.book.now) [] bs [] (view c.args.book.now)) (sym c.requires.0) begun;
-    rest = refl;
-    count = refl;
-    room = c.requires.1.1;
-  },
-  omega arith,
-  omega arith,
-  refl,
-  refl,
-)
-
-pub tell_line-requires : goal.tell_line-requires
-tell_line-requires g c = (
-  search rules,
-  (c.loop-at.invariant.3, (c.loop-at.invariant.4, omega (arith, c.loop-at.invariant.0.room, some_left c.args.input.now c.loop-at.at c.loop-at-test.true))),
-)
-
-pub loop-at-preserved : goal.loop-at-preserved
-loop-at-preserved g c =
-    let e = c.line_end-end.ensures in (
-      told_more c.line_end-end.result c.loop-at.invariant.0 c.loop-at-test.true e.bound.0 e.bound.1 e.all e.stops c.tell_line.ensures.told,
-      omega (arith, c.loop-at.invariant.1, e.bound.0),
-      omega (arith, e.bound.1),
-      c.tell_line.auto.rows ∙ c.loop-at.invariant.3,
-      c.tell_line.auto.page ∙ c.loop-at.invariant.4,
-    )
-
-pub returns : goal.returns
-returns g c =
-    let x = c.loop-at.invariant.0 in
-    let all = sym (append-nil x.told) ∙ ap (λ ls. x.told ++ ls) (sym (none_left c.args.input.now c.loop-at.at c.loop-at-test.false)) ∙ x.rest in
+pub loop-told-init : goal.loop-told-init
+loop-told-init g c =
+    let it = c.into_iter-told-iterator.result in
+    let all : lines (enumerate_source it).0.now ≡ lines c.args.input.now = search rules in
+    let none : 0 ≡ enumerate_count it = search rules in
     record {
-      told = (
-        x.made,
-        subst (λ ls. Session g.row.N g.R.SharingRule.shares g.P.PaymentRule.pays (view c.args.book.now) ls (vec_items c.loop-at.out) x.made (view c.loop-at.book)) all x.session,
-      );
+      told = [];
+      made = [];
+      session = subst (λ bs. Session g.row.N g.R.SharingRule.shares g.P.PaymentRule.pays (view c.args.book.now) [] bs [] (view c.args.book.now)) (sym c.requires.0) begun;
+      whole = all;
+      count = none;
+      room = subst (λ ls. vec_len c.args.out.now + needed (length ls) (view c.args.book.now) ≤ vec_capacity c.args.out.now) (sym all) c.requires.1.1;
     }
+
+pub loop-told-preserved : goal.loop-told-preserved
+loop-told-preserved g c =
+    let was = c.loop-told.told-iterator in
+    let here : lines (enumerate_source was).0.now ≡ c.in-Some.line.now ∷ lines (enumerate_source c.next.new.self).0.now = search rules in
+    let one_on : enumerate_count c.next.new.self ≡ enumerate_count was + 1 = search rules in
+    let number : c.in-Some.told ≡ enumerate_count was = search rules in
+    told_more c.loop-told.invariant here one_on
+        (subst
+        (λ n. LineTold g.row.N g.R.SharingRule.shares g.P.PaymentRule.pays (n + 1) c.in-Some.line.now (view c.loop-told.book) c.loop-told.out (view c.tell_line.new.book) c.tell_line.new.out)
+        number c.tell_line.ensures.told)

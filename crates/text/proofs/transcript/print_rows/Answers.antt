@@ -5,13 +5,12 @@ use Rattle.text.specs.Line.{row_line}
 use Rattle.text.proofs.Printed.{added_count, added_more, added_same, room_left, rows_more}
 use Rattle.text.proofs.transcript.print_rows.Goals as goal
 
-pub print_row-requires : goal.print_row-requires
-print_row-requires c =
-    (c.loop-row.auto.page ∙ c.requires.0, omega (arith, room_left c.loop-row.invariant 1 (omega (arith, c.requires.1))))
+pub print-requires : goal.print-requires
+print-requires c = omega (arith, room_left c.loop-row.invariant 1 (omega (arith, c.requires)))
 
 pub loop-row-preserved : goal.loop-row-preserved
 loop-row-preserved c =
-    added_same (rows_more c.args.rows.now c.loop-row.row-index _ c.loop-row-test.true) (added_more c.loop-row.invariant c.print_row.ensures.added)
+    added_same (rows_more c.args.rows.now c.loop-row.row-index _ c.loop-row-test.true) (added_more c.loop-row.invariant c.print.ensures.added)
 
 pub returns : goal.returns
 returns c =

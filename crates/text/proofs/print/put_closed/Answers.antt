@@ -1,9 +1,0 @@
-use Rattle.std.proofs.Common.{codes}
-use Rattle.text.specs.Line.{closed_line}
-use Rattle.text.proofs.Spelled.{put_line}
-use Rattle.text.proofs.Putting.{◌⨾◌}
-use Rattle.text.proofs.print.put_closed.Goals as goal
-
-pub returns : goal.returns
-unfolding closed_line
-returns c = put_line (codes "closed") _ (c.put-at.ensures ⨾ c.put_number-at.ensures.after ⨾ c.put-at-2.ensures ⨾ c.put_number-at-2.ensures.after ⨾ c.put-at-3.ensures ⨾ c.put_number-at-3.ensures.after ⨾ c.put.ensures)

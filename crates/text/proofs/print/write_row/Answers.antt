@@ -1,5 +1,0 @@
-use Rattle.text.proofs.Putting.{written}
-use Rattle.text.proofs.print.write_row.Goals as goal
-
-pub returns : goal.returns
-returns c = record { written = written c.in_ok-room.ensures.cases c.put_row.ensures }
