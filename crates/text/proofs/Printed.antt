@@ -1,12 +1,11 @@
 -- The transcript, as lines are put behind what is printed.
 -- Assumes nothing.
-use Rattle.std.proofs.Common.{◌≡◌, ℕ, ◌+◌, ◌*◌, ◌<◌, ◌≤◌, List, [], ◌++◌, length, get_or, take, drop, Ok, vec_items, vec_len, vec_capacity, Vec, sym, ap, ◌∙◌, subst, append_assoc, arith}
+use Rattle.std.proofs.Common.{◌≡◌, ℕ, ◌+◌, ◌*◌, ◌<◌, ◌≤◌, List, [], ◌++◌, length, get_or, take, vec_items, vec_len, vec_capacity, Vec, sym, ap, ◌∙◌, subst, append_assoc, arith}
 use Rattle.std.specs.declared.alloc.Global.{Global}
-use Rattle.std.proofs.lemmas.List.{flat_map_more, length-append, take_at, take_more}
+use Rattle.std.proofs.lemmas.List.{flat_map_more, length-append, take_more}
 use Rattle.std.specs.List.{flat_map}
 use Rattle.book.specs.declared.row.Row.{Row}
 use Rattle.text.specs.Line.{row_line}
-use Rattle.text.specs.Page.{Written, page_least}
 use Rattle.text.specs.Transcript.{Added}
 
 -- more, put behind that

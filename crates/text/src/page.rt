@@ -13,9 +13,10 @@ pub trait Line {
     // The bytes of the line, byte 10 at the end.
     ghost bytes: { Self → List ℕ };
 
-    fn text(&self) -> ArrayString<PAGE_LEAST>
-        ensures value { result.bytes ≡ bytes self.now }
-        ensures fits { length result.bytes ≤ page_least };
+    // Writes the line over a text.
+    fn spell(&self, text: &mut ArrayString<PAGE_LEAST>)
+        ensures after { text.new.bytes ≡ bytes self.now }
+        ensures fits { length text.new.bytes ≤ page_least };
 }
 
 // Writes a line into a page, and answers its length.
@@ -25,7 +26,8 @@ pub fn write<L: Line>(page: &mut [u8], line: &L) -> Result<usize, Refusal>
     if page.len() < PAGE_LEAST {
         return Err(Refusal::ShortPage);
     }
-    let text = line.text();
+    let mut text = ArrayString::new();
+    line.spell(&mut text);
     let bytes = text.as_str().as_bytes();
     page[..bytes.len()].copy_from_slice(bytes);
     Ok(bytes.len())

@@ -35,7 +35,7 @@ pub struct RefusedLine {
 #[inline(always)]
 fn put<I: Integer>(text: &mut ArrayString<PAGE_LEAST>, before: &str, n: I)
     requires { array_string_len text.old + length before.now + I.MAX_STR_LEN ≤ 300 }
-    ensures bytes { text.new.bytes ≡ text.old.bytes ++ before.now ++ I.text n }
+    ensures bytes { text.new.bytes ≡ text.old.bytes ++ (before.now ++ I.text n) }
     ensures bound { array_string_len text.new ≤ array_string_len text.old + length before.now + I.MAX_STR_LEN }
 {
     text.push_str(before);
@@ -63,55 +63,51 @@ fn word(layer: Layer) -> &'static str
 impl Line for Row {
     ghost bytes = { row_line };
 
-    fn text(&self) -> ArrayString<PAGE_LEAST> {
-        let mut text = ArrayString::new();
-        put(&mut text, "(row (asset ", self.asset);
-        put(&mut text, ") (award ", self.award);
-        put(&mut text, ") (taken ", sum(self.taken));
-        put(&mut text, ") (share ", sum(self.share));
-        put(&mut text, ") (paid ", self.payment);
-        put(&mut text, ") (carried ", self.balance);
+    fn spell(&self, text: &mut ArrayString<PAGE_LEAST>) {
+        text.clear();
+        put(text, "(row (asset ", self.asset);
+        put(text, ") (award ", self.award);
+        put(text, ") (taken ", sum(self.taken));
+        put(text, ") (share ", sum(self.share));
+        put(text, ") (paid ", self.payment);
+        put(text, ") (carried ", self.balance);
         text.push_str("))\n");
-        text
     }
 }
 
 impl Line for ClosedPeriod {
     ghost bytes = { λ closed. closed_line closed.period closed.residues };
 
-    fn text(&self) -> ArrayString<PAGE_LEAST> {
-        let mut text = ArrayString::new();
-        put(&mut text, "(closed (period ", self.period);
-        put(&mut text, ") (delivery ", self.residues.delivery);
-        put(&mut text, ") (availability ", self.residues.availability);
+    fn spell(&self, text: &mut ArrayString<PAGE_LEAST>) {
+        text.clear();
+        put(text, "(closed (period ", self.period);
+        put(text, ") (delivery ", self.residues.delivery);
+        put(text, ") (availability ", self.residues.availability);
         text.push_str("))\n");
-        text
     }
 }
 
 impl Line for Invoice {
     ghost bytes = { λ invoice. invoice_line invoice.asset invoice.cents };
 
-    fn text(&self) -> ArrayString<PAGE_LEAST> {
-        let mut text = ArrayString::new();
-        put(&mut text, "(invoice (asset ", self.asset);
-        put(&mut text, ") (cents ", self.cents);
+    fn spell(&self, text: &mut ArrayString<PAGE_LEAST>) {
+        text.clear();
+        put(text, "(invoice (asset ", self.asset);
+        put(text, ") (cents ", self.cents);
         text.push_str("))\n");
-        text
     }
 }
 
 impl Line for RefusedLine {
     ghost bytes = { λ refused. fault_line refused.line refused.fault };
 
-    fn text(&self) -> ArrayString<PAGE_LEAST> {
-        let mut text = ArrayString::new();
-        put(&mut text, "(refused (line ", self.line);
-        put(&mut text, ") (byte ", self.fault.byte());
+    fn spell(&self, text: &mut ArrayString<PAGE_LEAST>) {
+        text.clear();
+        put(text, "(refused (line ", self.line);
+        put(text, ") (byte ", self.fault.byte());
         text.push_str(") (layer ");
         text.push_str(word(self.fault.layer()));
-        put(&mut text, ") (number ", self.fault.number());
+        put(text, ") (number ", self.fault.number());
         text.push_str("))\n");
-        text
     }
 }

@@ -1,8 +1,9 @@
 // A session: the lines of an input, told to a book one after the other.
-ghost use Rattle.std.specs.Prelude.{◌≡◌, ◌+◌, ◌≤◌, [], length, IfOk, vec_len, vec_capacity, MatchResult};
+ghost use Rattle.std.specs.Prelude.{◌≡◌, ◌+◌, ◌*◌, ◌≤◌, [], length, IfOk, vec_len, vec_capacity, MatchResult};
 ghost use Rattle.book.specs.Book.{view};
 ghost use Rattle.book.specs.History.{History};
 ghost use Rattle.text.specs.Line.{fault_line};
+ghost use Rattle.text.specs.Page.{page_least};
 ghost use Rattle.text.specs.declared.fault.Fault.TheVariants.{Form as InForm};
 ghost use Rattle.text.specs.declared.fault.FormFault.TheVariants.{Text as InText};
 ghost use Rattle.text.specs.declared.fault.TextFault.TheVariants.{LongInput};
@@ -13,9 +14,8 @@ ghost use Rattle.text.specs.Telling.{LineTold, needed};
 use crate::entering::answer;
 use crate::fault::{Fault, FormFault, TextFault};
 use crate::input::Lines;
-use crate::page::PAGE_LEAST;
 use crate::print::RefusedLine;
-use crate::transcript::{ROW_PLACES, print, print_answer};
+use crate::transcript::{ROW_PLACES, Transcript};
 use book::{Book, ByClass, CLOSES_MOST, Row};
 use payment::PaymentRule;
 use sharing::Seats;
@@ -49,43 +49,44 @@ fn most_lines(input: &[u8]) -> usize
 // Tells one line, and prints what comes of it.
 fn tell_line<R: Seats<N>, P: PaymentRule, const N: usize>(
     book: &mut Book<R, P, N>,
-    out: &mut Vec<u8>,
+    transcript: &mut Transcript,
     number: usize,
     line: &[u8],
     rows: &mut [Row; ROW_PLACES],
 )
-    requires { vec_len out.old + needed 1 (view book.old) ≤ vec_capacity out.old }
-    ensures told { LineTold N R.SharingRule.shares P.PaymentRule.pays number line.now (view book.old) out.old (view book.new) out.new }
+    requires { vec_len transcript.old.bytes + needed 1 (view book.old) ≤ vec_capacity transcript.old.bytes }
+    ensures told { LineTold N R.SharingRule.shares P.PaymentRule.pays number line.now (view book.old) transcript.old.bytes (view book.new) transcript.new.bytes }
 {
     let answered = answer(book, line, rows);
-    print_answer(out, number, answered, rows);
+    transcript.print_answer(number, answered, rows);
 }
 
 // Tells all lines, with memory for all that they print.
 fn tell_lines<R: Seats<N>, P: PaymentRule, const N: usize>(
     book: &mut Book<R, P, N>,
-    out: &mut Vec<u8>,
+    transcript: &mut Transcript,
     input: &[u8],
 )
-    requires { (out.old.items ≡ []) × ((length input.now ≤ input_most) × (vec_len out.old + needed (length (lines input.now)) (view book.old) ≤ vec_capacity out.old)) }
-    ensures told { (h : History) × Session N R.SharingRule.shares P.PaymentRule.pays (view book.old) (lines input.now) out.new.items h (view book.new) }
+    requires { (transcript.old.bytes.items ≡ []) × ((length input.now ≤ input_most) × (vec_len transcript.old.bytes + needed (length (lines input.now)) (view book.old) ≤ vec_capacity transcript.old.bytes)) }
+    ensures told { (h : History) × Session N R.SharingRule.shares P.PaymentRule.pays (view book.old) (lines input.now) transcript.new.bytes.items h (view book.new) }
 {
     let mut rows = [BLANK; ROW_PLACES];
     for (told, line) in Lines(input).enumerate() {
-        tell_line(book, out, told + 1, line, &mut rows);
+        tell_line(book, transcript, told + 1, line, &mut rows);
     }
 }
 
-// The bytes that a session can print at the most.
-fn room_for<R: Seats<N>, P: PaymentRule, const N: usize>(
+// The lines that a session can print at the most.
+fn most_printed<R: Seats<N>, P: PaymentRule, const N: usize>(
     book: &Book<R, P, N>,
     lines: usize,
 ) -> usize
     requires { lines ≤ input_most + 1 }
-    ensures value { result ≡ needed lines (view book.now) }
+    ensures value { result * page_least ≡ needed lines (view book.now) }
+    ensures bound { result ≤ 100000 }
 {
     let closes = CLOSES_MOST.saturating_sub(book.closes()) as usize;
-    (lines + ROW_PLACES * closes) * PAGE_LEAST
+    lines + ROW_PLACES * closes
 }
 
 // Tells a whole input to a book, and answers the transcript. Memory is asked for before the first line is told.
@@ -99,19 +100,19 @@ pub fn session<R: Seats<N>, P: PaymentRule, const N: usize>(
     if input.len() > INPUT_MOST {
         return unread(heap);
     }
-    let mut out = Vec::with_capacity(heap, room_for(book, most_lines(input)))?;
-    tell_lines(book, &mut out, input);
-    Ok(out)
+    let mut transcript = Transcript::with_room(heap, most_printed(book, most_lines(input)))?;
+    tell_lines(book, &mut transcript, input);
+    Ok(transcript.bytes)
 }
 
 // The transcript of an input that is too long to be read.
 fn unread(heap: Global) -> Result<Vec<u8>, AllocError>
     ensures made { IfOk result (λ out. out.items ≡ fault_line 0 (InForm (InText LongInput))) }
 {
-    let mut out = Vec::with_capacity(heap, PAGE_LEAST)?;
+    let mut transcript = Transcript::with_room(heap, 1)?;
     let fault = Fault::Form(FormFault::Text(TextFault::LongInput));
-    print(&mut out, &RefusedLine { line: 0, fault });
-    Ok(out)
+    transcript.print(&RefusedLine { line: 0, fault });
+    Ok(transcript.bytes)
 }
 
 // Opens a book of this rule and this pile, tells it a whole input, and answers the transcript with the book as it is left. The

@@ -1,5 +1,5 @@
 // What is printed, line by line.
-ghost use Rattle.std.specs.Prelude.{◌+◌, ◌*◌, ◌≤◌, length, vec_len, vec_capacity};
+ghost use Rattle.std.specs.Prelude.{◌≡◌, ◌+◌, ◌*◌, ◌≤◌, [], length, IfOk, vec_len, vec_capacity};
 ghost use Rattle.std.specs.List.{flat_map};
 ghost use Rattle.text.specs.Session.{row_places};
 ghost use Rattle.text.specs.Answer.{heights, text};
@@ -9,47 +9,72 @@ ghost use Rattle.text.specs.Page.{page_least};
 
 use crate::answer::Answer;
 use crate::fault::Fault;
-use crate::page::Line;
+use crate::page::{Line, PAGE_LEAST};
 use crate::print::RefusedLine;
+use arrayvec::ArrayString;
 use book::Row;
+use std::alloc::{AllocError, Global};
 
 // The places for the rows of a close.
 pub(crate) const ROW_PLACES: usize = 64;
 
-// Puts a line behind what is printed.
-pub(crate) fn print<L: Line>(out: &mut Vec<u8>, line: &L)
-    requires { vec_len out.old + page_least ≤ vec_capacity out.old }
-    ensures added { Added 1 (L.bytes line.now) out.old out.new }
-{
-    out.extend_from_slice(line.text().as_str().as_bytes()).unwrap();
+// What is printed, and the text of the line that is put behind it.
+#[derive(Drop)]
+pub(crate) struct Transcript {
+    pub bytes: Vec<u8>,
+    pub text: ArrayString<PAGE_LEAST>,
 }
 
-fn print_rows(out: &mut Vec<u8>, rows: &[Row])
-    requires { vec_len out.old + length rows.now * page_least ≤ vec_capacity out.old }
-    ensures added { Added (length rows.now) (flat_map row_line rows.now) out.old out.new }
-{
-    for row in rows {
-        print(out, row);
+impl Transcript {
+    // An empty one, with room for so many lines.
+    pub fn with_room(heap: Global, lines: usize) -> Result<Transcript, AllocError>
+        requires { lines ≤ 100000 }
+        ensures made { IfOk result (λ made. (made.bytes.items ≡ []) × (lines * page_least ≤ vec_capacity made.bytes)) }
+    {
+        Ok(Transcript {
+            bytes: Vec::with_capacity(heap, lines * PAGE_LEAST)?,
+            text: ArrayString::new(),
+        })
     }
-}
 
-// What comes of a line.
-pub(crate) fn print_answer(
-    out: &mut Vec<u8>,
-    line: usize,
-    answer: Result<Answer, Fault>,
-    rows: &[Row; ROW_PLACES],
-)
-    requires { (heights answer ≤ row_places + 1) × (vec_len out.old + heights answer * page_least ≤ vec_capacity out.old) }
-    ensures added { Added (heights answer) (text line answer rows.now) out.old out.new }
-{
-    match answer {
-        Ok(Answer::Silent) => {}
-        Ok(Answer::Invoice(invoice)) => print(out, &invoice),
-        Ok(Answer::Closed { rows: count, period }) => {
-            print_rows(out, &rows[..count]);
-            print(out, &period);
+    // Puts a line behind what is printed.
+    pub fn print<L: Line>(&mut self, line: &L)
+        requires { vec_len self.old.bytes + page_least ≤ vec_capacity self.old.bytes }
+        ensures added { Added 1 (L.bytes line.now) self.old.bytes self.new.bytes }
+    {
+        line.spell(&mut self.text);
+        self.bytes
+            .extend_from_slice(self.text.as_str().as_bytes())
+            .unwrap();
+    }
+
+    fn print_rows(&mut self, rows: &[Row])
+        requires { vec_len self.old.bytes + length rows.now * page_least ≤ vec_capacity self.old.bytes }
+        ensures added { Added (length rows.now) (flat_map row_line rows.now) self.old.bytes self.new.bytes }
+    {
+        for row in rows {
+            self.print(row);
         }
-        Err(fault) => print(out, &RefusedLine { line, fault }),
+    }
+
+    // What comes of a line.
+    pub fn print_answer(
+        &mut self,
+        line: usize,
+        answer: Result<Answer, Fault>,
+        rows: &[Row; ROW_PLACES],
+    )
+        requires { (heights answer ≤ row_places + 1) × (vec_len self.old.bytes + heights answer * page_least ≤ vec_capacity self.old.bytes) }
+        ensures added { Added (heights answer) (text line answer rows.now) self.old.bytes self.new.bytes }
+    {
+        match answer {
+            Ok(Answer::Silent) => {}
+            Ok(Answer::Invoice(invoice)) => self.print(&invoice),
+            Ok(Answer::Closed { rows: count, period }) => {
+                self.print_rows(&rows[..count]);
+                self.print(&period);
+            }
+            Err(fault) => self.print(&RefusedLine { line, fault }),
+        }
     }
 }

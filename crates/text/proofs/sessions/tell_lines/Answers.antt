@@ -1,6 +1,5 @@
-use Rattle.std.proofs.Common.{◌≡◌, ◌+◌, [], ◌∷◌, ◌++◌, vec_items, vec_len, vec_capacity, ◌≤◌, length, sym, ap, ◌∙◌, subst, rules}
+use Rattle.std.proofs.Common.{◌≡◌, ◌+◌, [], ◌∷◌, vec_len, vec_capacity, ◌≤◌, length, sym, subst, rules}
 use Rattle.std.specs.Iterator.Adapters.{enumerate_count, enumerate_source}
-use Rattle.std.proofs.lemmas.List.{append-nil}
 use Rattle.book.specs.Book.{view}
 use Rattle.text.specs.Session.{Session, begun, lines}
 use Rattle.text.specs.Telling.{LineTold, needed}
@@ -18,7 +17,7 @@ loop-told-init g c =
       session = subst (λ bs. Session g.row.N g.R.SharingRule.shares g.P.PaymentRule.pays (view c.args.book.now) [] bs [] (view c.args.book.now)) (sym c.requires.0) begun;
       whole = all;
       count = none;
-      room = subst (λ ls. vec_len c.args.out.now + needed (length ls) (view c.args.book.now) ≤ vec_capacity c.args.out.now) (sym all) c.requires.1.1;
+      room = subst (λ ls. vec_len c.args.transcript.now.bytes + needed (length ls) (view c.args.book.now) ≤ vec_capacity c.args.transcript.now.bytes) (sym all) c.requires.1.1;
     }
 
 pub loop-told-preserved : goal.loop-told-preserved
@@ -29,5 +28,5 @@ loop-told-preserved g c =
     let number : c.in-Some.told ≡ enumerate_count was = search rules in
     told_more c.loop-told.invariant here one_on
         (subst
-        (λ n. LineTold g.row.N g.R.SharingRule.shares g.P.PaymentRule.pays (n + 1) c.in-Some.line.now (view c.loop-told.book) c.loop-told.out (view c.tell_line.new.book) c.tell_line.new.out)
+        (λ n. LineTold g.row.N g.R.SharingRule.shares g.P.PaymentRule.pays (n + 1) c.in-Some.line.now (view c.loop-told.book) c.loop-told.transcript.bytes (view c.tell_line.new.book) c.tell_line.new.transcript.bytes)
         number c.tell_line.ensures.told)

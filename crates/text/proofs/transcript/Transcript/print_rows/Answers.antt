@@ -1,9 +1,9 @@
-use Rattle.std.proofs.Common.{ap, ◌∙◌, arith}
+use Rattle.std.proofs.Common.{ap, arith}
 use Rattle.std.specs.List.{flat_map}
 use Rattle.std.proofs.lemmas.List.{take_all}
 use Rattle.text.specs.Line.{row_line}
 use Rattle.text.proofs.Printed.{added_count, added_more, added_same, room_left, rows_more}
-use Rattle.text.proofs.transcript.print_rows.Goals as goal
+use Rattle.text.proofs.transcript.Transcript.print_rows.Goals as goal
 
 pub print-requires : goal.print-requires
 print-requires c = omega (arith, room_left c.loop-row.invariant 1 (omega (arith, c.requires)))
