@@ -1,10 +1,10 @@
 -- The lines of an input, one after the other.
 -- Assumes nothing.
-use Rattle.std.proofs.Common.{◌≡◌, ℕ, zero, suc, ◌+◌, ◌-◌, ◌<◌, ◌≤◌, max, Bool, false, true, List, [], ◌∷◌, eqb, cond, count_by, length, get_or, take, drop, Some, None, sym, refl, ap, ◌∙◌, ⊎_elim, arith}
+use Rattle.std.proofs.Common.{◌≡◌, ℕ, zero, suc, ◌+◌, ◌-◌, ◌<◌, ◌≤◌, max, Bool, false, true, List, [], ◌∷◌, eqb, length, get_or, take, drop, Some, None, sym, refl, ap, ◌∙◌, ⊎_elim, arith}
 use Rattle.std.proofs.lemmas.Bool.{cases_Bool, cases_lt, cond-false, cond-true, lt-ltb}
 use Rattle.std.proofs.lemmas.List.{take_rest}
 use Rattle.std.proofs.lemmas.List.Quantifiers.{position-Some}
-use Rattle.std.proofs.lemmas.List.Sums.{fails_before_first, sum_by-cons}
+use Rattle.std.proofs.lemmas.List.Sums.{fails_before_first}
 use Rattle.std.specs.List.{position, position_or_len}
 use Rattle.text.specs.Session.{lines, onto}
 use Rattle.text.proofs.Shapes.{none_some}
@@ -13,19 +13,15 @@ length-onto : (b : ℕ) (ls : List (List ℕ)) → length (onto b ls) ≡ max 1 
 length-onto b [] = refl
 length-onto b (l ∷ ls) = omega arith
 
--- an input has at most one line more than bytes 10
-pub counted : (input : List ℕ) → length (lines input) ≤ 1 + count_by (λ b. eqb b 10) input
-counted [] = omega arith
-counted (b ∷ bs) =
-    let rest = counted bs in
-    let one : ℕ = 1 in
-    let none : ℕ = 0 in
-    let first = sum_by-cons (λ b. cond (eqb b 10) 1 0) b bs in
+-- every line has a byte of its own
+pub few : (input : List ℕ) → length (lines input) ≤ length input
+few [] = omega arith
+few (b ∷ bs) =
+    let rest = few bs in
     ⊎_elim
-    (λ e. omega (arith, first, ap length (cond-true (eqb b 10) ([] ∷ lines bs) (onto b (lines bs)) e), cond-true (eqb b 10) one none e, rest))
-    (λ e. omega (arith, first, ap length (cond-false (eqb b 10) ([] ∷ lines bs) (onto b (lines bs)) e), length-onto b (lines bs), cond-false (eqb b 10) one none e, rest))
+    (λ e. omega (arith, ap length (cond-true (eqb b 10) ([] ∷ lines bs) (onto b (lines bs)) e), rest))
+    (λ e. omega (arith, ap length (cond-false (eqb b 10) ([] ∷ lines bs) (onto b (lines bs)) e), length-onto b (lines bs), rest))
     (cases_Bool (eqb b 10))
-
 -- byte 10 ends the first line
 pub cut : (bs : List ℕ) (n : ℕ) → n < length bs → eqb (get_or bs n 0) 10 ≡ true → ((k : ℕ) → k < n → eqb (get_or bs k 0) 10 ≡ false)
     → lines bs ≡ take n bs ∷ lines (drop (suc n) bs)

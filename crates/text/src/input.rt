@@ -1,5 +1,5 @@
 // The lines of an input, one after the other.
-ghost use Rattle.std.specs.Prelude.{◌≡◌, ◌==◌, position};
+ghost use Rattle.std.specs.Prelude.{◌≡◌, ◌==◌, length, position};
 ghost use Rattle.std.specs.Iterator.{YieldsFirstRef, item_count};
 ghost use Rattle.text.specs.Session.{lines};
 
@@ -37,4 +37,10 @@ impl<'a> Iterator for Lines<'a> {
             }
         }
     }
+}
+
+pub(crate) fn line_count(input: &[u8]) -> usize
+    ensures value { result ≡ length (lines input.now) }
+{
+    Lines(input).count()
 }

@@ -1,9 +1,8 @@
 // A session: the lines of an input, told to a book one after the other.
-ghost use Rattle.std.specs.Prelude.{◌≡◌, ◌+◌, ◌*◌, ◌≤◌, [], length, IfOk, vec_len, vec_capacity, MatchResult};
+ghost use Rattle.std.specs.Prelude.{◌≡◌, ◌+◌, ◌≤◌, [], length, IfOk, vec_len, vec_capacity, MatchResult};
 ghost use Rattle.book.specs.Book.{view};
 ghost use Rattle.book.specs.History.{History};
 ghost use Rattle.text.specs.Line.{fault_line};
-ghost use Rattle.text.specs.Page.{page_least};
 ghost use Rattle.text.specs.declared.fault.Fault.TheVariants.{Form as InForm};
 ghost use Rattle.text.specs.declared.fault.FormFault.TheVariants.{Text as InText};
 ghost use Rattle.text.specs.declared.fault.TextFault.TheVariants.{LongInput};
@@ -13,7 +12,8 @@ ghost use Rattle.text.specs.Telling.{LineTold, needed};
 
 use crate::entering::answer;
 use crate::fault::{Fault, FormFault, TextFault};
-use crate::input::Lines;
+use crate::input::{Lines, line_count};
+use crate::page::PAGE_LEAST;
 use crate::print::RefusedLine;
 use crate::transcript::{ROW_PLACES, Transcript};
 use book::{Book, ByClass, CLOSES_MOST, Row};
@@ -37,14 +37,6 @@ const BLANK: Row = Row {
     payment: 0,
     balance: 0,
 };
-
-// A number of lines that is not exceeded.
-fn most_lines(input: &[u8]) -> usize
-    requires { length input.now ≤ input_most }
-    ensures bound { (length (lines input.now) ≤ result) × (result ≤ input_most + 1) }
-{
-    1 + input.iter().filter(|b| **b == b'\n').count()
-}
 
 // Tells one line, and prints what comes of it.
 fn tell_line<R: Seats<N>, P: PaymentRule, const N: usize>(
@@ -76,17 +68,16 @@ fn tell_lines<R: Seats<N>, P: PaymentRule, const N: usize>(
     }
 }
 
-// The lines that a session can print at the most.
-fn most_printed<R: Seats<N>, P: PaymentRule, const N: usize>(
+// The bytes that a session can print at the most.
+fn room_for<R: Seats<N>, P: PaymentRule, const N: usize>(
     book: &Book<R, P, N>,
     lines: usize,
 ) -> usize
-    requires { lines ≤ input_most + 1 }
-    ensures value { result * page_least ≡ needed lines (view book.now) }
-    ensures bound { result ≤ 100000 }
+    requires { lines ≤ input_most }
+    ensures value { result ≡ needed lines (view book.now) }
 {
     let closes = CLOSES_MOST.saturating_sub(book.closes()) as usize;
-    lines + ROW_PLACES * closes
+    (lines + ROW_PLACES * closes) * PAGE_LEAST
 }
 
 // Tells a whole input to a book, and answers the transcript. Memory is asked for before the first line is told.
@@ -100,7 +91,8 @@ pub fn session<R: Seats<N>, P: PaymentRule, const N: usize>(
     if input.len() > INPUT_MOST {
         return unread(heap);
     }
-    let mut transcript = Transcript::with_room(heap, most_printed(book, most_lines(input)))?;
+    let room = room_for(book, line_count(input));
+    let mut transcript = Transcript::with_room(heap, room)?;
     tell_lines(book, &mut transcript, input);
     Ok(transcript.bytes)
 }
@@ -109,7 +101,7 @@ pub fn session<R: Seats<N>, P: PaymentRule, const N: usize>(
 fn unread(heap: Global) -> Result<Vec<u8>, AllocError>
     ensures made { IfOk result (λ out. out.items ≡ fault_line 0 (InForm (InText LongInput))) }
 {
-    let mut transcript = Transcript::with_room(heap, 1)?;
+    let mut transcript = Transcript::with_room(heap, PAGE_LEAST)?;
     let fault = Fault::Form(FormFault::Text(TextFault::LongInput));
     transcript.print(&RefusedLine { line: 0, fault });
     Ok(transcript.bytes)

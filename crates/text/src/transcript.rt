@@ -26,13 +26,13 @@ pub(crate) struct Transcript {
 }
 
 impl Transcript {
-    // An empty one, with room for so many lines.
-    pub fn with_room(heap: Global, lines: usize) -> Result<Transcript, AllocError>
-        requires { lines ≤ 100000 }
-        ensures made { IfOk result (λ made. (made.bytes.items ≡ []) × (lines * page_least ≤ vec_capacity made.bytes)) }
+    // An empty one, with room for so many bytes.
+    pub fn with_room(heap: Global, room: usize) -> Result<Transcript, AllocError>
+        ensures bytes { IfOk result (λ made. made.bytes.items ≡ []) }
+        ensures room { IfOk result (λ made. vec_capacity made.bytes ≡ room) }
     {
         Ok(Transcript {
-            bytes: Vec::with_capacity(heap, lines * PAGE_LEAST)?,
+            bytes: Vec::with_capacity(heap, room)?,
             text: ArrayString::new(),
         })
     }
