@@ -22,6 +22,7 @@ few (b ∷ bs) =
     (λ e. omega (arith, ap length (cond-true (eqb b 10) ([] ∷ lines bs) (onto b (lines bs)) e), rest))
     (λ e. omega (arith, ap length (cond-false (eqb b 10) ([] ∷ lines bs) (onto b (lines bs)) e), length-onto b (lines bs), rest))
     (cases_Bool (eqb b 10))
+
 -- byte 10 ends the first line
 pub cut : (bs : List ℕ) (n : ℕ) → n < length bs → eqb (get_or bs n 0) 10 ≡ true → ((k : ℕ) → k < n → eqb (get_or bs k 0) 10 ≡ false)
     → lines bs ≡ take n bs ∷ lines (drop (suc n) bs)

@@ -1,7 +1,7 @@
 // A form entered into a book.
 ghost use Rattle.book.specs.Book.{view};
 ghost use Rattle.text.specs.Answer.{Came, Made, Roomy};
-ghost use Rattle.text.specs.Entering.{booked, quiet};
+ghost use Rattle.text.specs.Entering.{booked};
 ghost use Rattle.std.specs.Prelude.{◌≡◌, List};
 ghost use Rattle.text.specs.declared.form.Form.TheVariants.{Close, Term};
 
@@ -14,13 +14,6 @@ use crate::transcript::ROW_PLACES;
 use book::{Book, Refusal, Row};
 use payment::PaymentRule;
 use sharing::Seats;
-
-// Nothing is printed of a call that answers nothing.
-fn silent(r: Result<(), Refusal>) -> Result<Answer, Refusal>
-    ensures value { result ≡ quiet r }
-{
-    r.map(|()| Answer::Silent)
-}
 
 // The term of a year; its invoice is printed where it is above 0.
 fn enter_term<R: Seats<N>, P: PaymentRule, const N: usize>(
@@ -68,28 +61,29 @@ fn enter<R: Seats<N>, P: PaymentRule, const N: usize>(
     ensures room { Roomy result (view book.old) (view book.new) }
 {
     match form {
-        Form::List { asset, holder } => silent(book.list(asset, holder)),
+        Form::List { asset, holder } => book.list(asset, holder)?,
         Form::Term {
             asset,
             award,
             commitment,
             ready,
-        } => enter_term(book, asset, award, commitment, ready),
+        } => return enter_term(book, asset, award, commitment, ready),
         Form::Over {
             class,
             asset,
             cents,
-        } => silent(book.over(class, asset, cents)),
+        } => book.over(class, asset, cents)?,
         Form::Under {
             class,
             asset,
             cents,
-        } => silent(book.under(class, asset, cents)),
-        Form::Uplift { asset, cents } => silent(book.uplift(asset, cents)),
-        Form::Payin { asset, cents } => silent(book.payin(asset, cents)),
-        Form::Ready { asset } => silent(book.ready(asset)),
-        Form::Close => enter_close(book, rows),
+        } => book.under(class, asset, cents)?,
+        Form::Uplift { asset, cents } => book.uplift(asset, cents)?,
+        Form::Payin { asset, cents } => book.payin(asset, cents)?,
+        Form::Ready { asset } => book.ready(asset)?,
+        Form::Close => return enter_close(book, rows),
     }
+    Ok(Answer::Silent)
 }
 
 // Reads a line and makes its call.

@@ -11,7 +11,7 @@ use book::{ByClass, Row};
 use itoa::{Buffer, Integer};
 
 // What is due from an asset at once.
-#[derive(Clone, Copy)]
+#[derive(Clone, Copy, Debug, PartialEq, Eq)]
 pub struct Invoice {
     pub asset: u64,
     pub cents: u64,
@@ -31,7 +31,7 @@ pub struct RefusedLine {
     pub fault: Fault,
 }
 
-// Puts a number in decimal behind a text, and what stands before it.
+// Puts a number in decimal behind a text, and what stands before it. Inlined, so that the words before it are no call.
 #[inline(always)]
 fn put<I: Integer>(text: &mut ArrayString<PAGE_LEAST>, before: &str, n: I)
     requires { array_string_len text.old + length before.now + I.MAX_STR_LEN ≤ 300 }

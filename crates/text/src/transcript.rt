@@ -70,7 +70,12 @@ impl Transcript {
         match answer {
             Ok(Answer::Silent) => {}
             Ok(Answer::Invoice(invoice)) => self.print(&invoice),
-            Ok(Answer::Closed { rows: count, period }) => {
+            Ok(
+                Answer::Closed {
+                    rows: count,
+                    period,
+                },
+            ) => {
                 self.print_rows(&rows[..count]);
                 self.print(&period);
             }

@@ -27,6 +27,6 @@ loop-told-preserved g c =
     let one_on : enumerate_count c.next.new.self ≡ enumerate_count was + 1 = search rules in
     let number : c.in-Some.told ≡ enumerate_count was = search rules in
     told_more c.loop-told.invariant here one_on
-        (subst
-        (λ n. LineTold g.row.N g.R.SharingRule.shares g.P.PaymentRule.pays (n + 1) c.in-Some.line.now (view c.loop-told.book) c.loop-told.transcript.bytes (view c.tell_line.new.book) c.tell_line.new.transcript.bytes)
-        number c.tell_line.ensures.told)
+    (subst
+    (λ n. LineTold g.row.N g.R.SharingRule.shares g.P.PaymentRule.pays (n + 1) c.in-Some.line.now (view c.loop-told.book) c.loop-told.transcript.bytes (view c.tell_line.new.book) c.tell_line.new.transcript.bytes)
+    number c.tell_line.ensures.told)

@@ -14,7 +14,7 @@ returns-in-Some-clause-goes c =
     let rest = c.args.self.now.0.now in
     let found : position (λ b. eqb b 10) rest ≡ Some c.in-Some.end = sym c.line_end.ensures.value ∙ c.in-Some.is in
     let fewer : length (lines (take (length rest - (c.in-Some.end + 1)) (drop (c.in-Some.end + 1) rest))) < length (lines rest) =
-        omega (arith, ap length (first_cut rest c.in-Some.end found)) in
+    omega (arith, ap length (first_cut rest c.in-Some.end found)) in
     search rules
 
 pub returns-in-None-clause-steps : goal.returns-in-None-clause-steps
