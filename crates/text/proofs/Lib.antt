@@ -5,7 +5,6 @@ mod Lining
 mod Numbers
 mod Once
 mod Pieces
-mod Printed
 mod Ranges
 mod Readings
 mod Runs

@@ -28,9 +28,6 @@ abbrev pub pieces_of : List ℕ → List (List ℕ × List ℕ) → List (List �
 pieces_of before [] = (before ++ codes ")" ++ 10 ∷ []) ∷ []
 pieces_of before ((name, value) ∷ fields) = (before ++ codes " (" ++ name ++ codes " " ++ value) ∷ pieces_of (codes ")") fields
 
-regroup : (before opened rest : List ℕ) → before ++ opened ++ rest ≡ before ++ (opened ++ rest)
-regroup before opened rest = append_assoc before opened rest
-
 pieces_are : (before : List ℕ) (fields : List (List ℕ × List ℕ)) → concat (pieces_of before fields) ≡ before ++ (flat_map field fields ++ codes ")" ++ 10 ∷ [])
 pieces_are before [] = simp (append_assoc, append-nil)
 pieces_are before ((name, value) ∷ fields) = ap (λ xs. before ++ codes " (" ++ name ++ codes " " ++ value ++ xs) (pieces_are (codes ")") fields) ∙ simp append_assoc

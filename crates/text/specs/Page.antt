@@ -1,21 +1,15 @@
 -- A line that is written into a page, the caller's bytes.
 --   page_least                    the least bytes of a page
---   Put a at bs b e               the page a is now b: bs stands from a place on, all else is as it was, and e is the place behind bs
 --   after_writing line page r     what the page holds then: the line with the bytes behind it as they were, or where it is refused all as it was
 --   Written line page page' r     what a writer answers and leaves: it is refused by 16 exactly where the page is too short;
 --                                 it answers the length of the line
 -- Assumes nothing.
-use Rattle.std.specs.Prelude.{◌≡◌, ℕ, ◌+◌, ◌≤◌, List, ◌++◌, length, take, drop, IfOk, Ok, Err, Result}
+use Rattle.std.specs.Prelude.{◌≡◌, ℕ, ◌≤◌, List, ◌++◌, length, drop, IfOk, Ok, Err, Result}
 use Rattle.text.specs.Refusal.{RefusedUnless, refusal}
 use Rattle.text.specs.declared.refusal.Refusal.{Refusal}
 
 abbrev pub page_least : ℕ
 page_least = 300
-
-pub record Put (a : List ℕ) (at : ℕ) (bs b : List ℕ) (e : ℕ) : Type 0 where
-  pub end : e ≡ at + length bs
-  pub fits : e ≤ length a
-  pub page : b ≡ take at a ++ bs ++ drop e a
 
 abbrev pub after_writing : List ℕ → List ℕ → Result ℕ Refusal → List ℕ
 after_writing line page (Ok n) = line ++ drop (length line) page
