@@ -7,5 +7,5 @@ pub(crate) enum Answer {
     Silent,
     Invoice(Invoice),
     // so many rows, and the end of the close
-    Closed { rows: usize, period: ClosedPeriod },
+    Closed { count: usize, period: ClosedPeriod },
 }

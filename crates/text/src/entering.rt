@@ -2,7 +2,7 @@
 ghost use Rattle.book.specs.Book.{view};
 ghost use Rattle.text.specs.Answer.{Came, Made, Roomy};
 ghost use Rattle.text.specs.Entering.{booked};
-ghost use Rattle.std.specs.Prelude.{◌≡◌, List};
+ghost use Rattle.std.specs.Prelude.{List};
 ghost use Rattle.text.specs.declared.form.Form.TheVariants.{Close, Term};
 
 use crate::answer::Answer;
@@ -46,7 +46,7 @@ fn enter_close<R: Seats<N>, P: PaymentRule, const N: usize>(
         residues: closed.residues,
     };
     Ok(Answer::Closed {
-        rows: closed.rows,
+        count: closed.rows,
         period,
     })
 }

@@ -21,7 +21,7 @@ mod words;
 
 pub use fault::{Fault, FormFault, Layer, TextFault};
 pub use form::Form;
-pub use page::{Line, PAGE_LEAST, write};
+pub use page::{Line, PAGE_LEAST, Text, write};
 pub use print::{ClosedPeriod, Invoice, RefusedLine};
 pub use reader::read_line;
 pub use refusal::Refusal;

@@ -3,10 +3,10 @@ ghost use Rattle.std.specs.Prelude.{◌≡◌, ◌+◌, ◌≤◌, ◌++◌, len
 ghost use Rattle.arrayvec.specs.ArrayString.{array_string_len};
 ghost use Rattle.book.specs.Class.{both};
 ghost use Rattle.text.specs.Line.{closed_line, fault_line, invoice_line, layer_word, row_line};
+ghost use Rattle.text.specs.Page.{page_least};
 
 use crate::fault::{Fault, Layer};
-use crate::page::{Line, PAGE_LEAST};
-use arrayvec::ArrayString;
+use crate::page::{Line, Text};
 use book::{ByClass, Row};
 use itoa::{Buffer, Integer};
 
@@ -33,8 +33,8 @@ pub struct RefusedLine {
 
 // Puts a number in decimal behind a text, and what stands before it. Inlined, so that the words before it are no call.
 #[inline(always)]
-fn put<I: Integer>(text: &mut ArrayString<PAGE_LEAST>, before: &str, n: I)
-    requires { array_string_len text.old + length before.now + I.MAX_STR_LEN ≤ 300 }
+fn put<I: Integer>(text: &mut Text, before: &str, n: I)
+    requires { array_string_len text.old + length before.now + I.MAX_STR_LEN ≤ page_least }
     ensures bytes { text.new.bytes ≡ text.old.bytes ++ (before.now ++ I.text n) }
     ensures bound { array_string_len text.new ≤ array_string_len text.old + length before.now + I.MAX_STR_LEN }
 {
@@ -63,7 +63,7 @@ fn word(layer: Layer) -> &'static str
 impl Line for Row {
     ghost bytes = { row_line };
 
-    fn spell(&self, text: &mut ArrayString<PAGE_LEAST>) {
+    fn spell(&self, text: &mut Text) {
         text.clear();
         put(text, "(row (asset ", self.asset);
         put(text, ") (award ", self.award);
@@ -78,7 +78,7 @@ impl Line for Row {
 impl Line for ClosedPeriod {
     ghost bytes = { λ closed. closed_line closed.period closed.residues };
 
-    fn spell(&self, text: &mut ArrayString<PAGE_LEAST>) {
+    fn spell(&self, text: &mut Text) {
         text.clear();
         put(text, "(closed (period ", self.period);
         put(text, ") (delivery ", self.residues.delivery);
@@ -90,7 +90,7 @@ impl Line for ClosedPeriod {
 impl Line for Invoice {
     ghost bytes = { λ invoice. invoice_line invoice.asset invoice.cents };
 
-    fn spell(&self, text: &mut ArrayString<PAGE_LEAST>) {
+    fn spell(&self, text: &mut Text) {
         text.clear();
         put(text, "(invoice (asset ", self.asset);
         put(text, ") (cents ", self.cents);
@@ -101,7 +101,7 @@ impl Line for Invoice {
 impl Line for RefusedLine {
     ghost bytes = { λ refused. fault_line refused.line refused.fault };
 
-    fn spell(&self, text: &mut ArrayString<PAGE_LEAST>) {
+    fn spell(&self, text: &mut Text) {
         text.clear();
         put(text, "(refused (line ", self.line);
         put(text, ") (byte ", self.fault.byte());

@@ -9,9 +9,8 @@ ghost use Rattle.text.specs.Page.{page_least};
 
 use crate::answer::Answer;
 use crate::fault::Fault;
-use crate::page::{Line, PAGE_LEAST};
+use crate::page::{Line, Text};
 use crate::print::RefusedLine;
-use arrayvec::ArrayString;
 use book::Row;
 use std::alloc::{AllocError, Global};
 
@@ -22,7 +21,7 @@ pub(crate) const ROW_PLACES: usize = 64;
 #[derive(Drop)]
 pub(crate) struct Transcript {
     pub bytes: Vec<u8>,
-    pub text: ArrayString<PAGE_LEAST>,
+    pub text: Text,
 }
 
 impl Transcript {
@@ -33,7 +32,7 @@ impl Transcript {
     {
         Ok(Transcript {
             bytes: Vec::with_capacity(heap, room)?,
-            text: ArrayString::new(),
+            text: Text::new(),
         })
     }
 
@@ -70,12 +69,7 @@ impl Transcript {
         match answer {
             Ok(Answer::Silent) => {}
             Ok(Answer::Invoice(invoice)) => self.print(&invoice),
-            Ok(
-                Answer::Closed {
-                    rows: count,
-                    period,
-                },
-            ) => {
+            Ok(Answer::Closed { count, period }) => {
                 self.print_rows(&rows[..count]);
                 self.print(&period);
             }
