@@ -8,7 +8,7 @@ mod in_force;
 pub(crate) mod invoice;
 mod opened;
 
-#[derive(Clone, Copy)]
+#[derive(Clone, Copy, Debug, PartialEq, Eq)]
 pub struct Account {
     pub asset: u64,
     pub holder: u64,
@@ -17,7 +17,7 @@ pub struct Account {
 }
 
 // What an asset's standing comes from.
-#[derive(Clone, Copy)]
+#[derive(Clone, Copy, Debug, PartialEq, Eq)]
 pub struct Terms {
     // of the last term: its award in cents and its commitment in kilowatts, both 0 where there was none, and its year
     pub award: i64,

@@ -7,7 +7,7 @@ use Rattle.std.proofs.lemmas.List.Quantifiers.{position-Some}
 use Rattle.std.proofs.lemmas.List.Sums.{fails_before_first}
 use Rattle.std.specs.List.{position, position_or_len}
 use Rattle.text.specs.Session.{lines, onto}
-use Rattle.text.proofs.Shapes.{none_some}
+use Rattle.std.proofs.lemmas.Option.{none-some}
 
 length-onto : (b : ℕ) (ls : List (List ℕ)) → length (onto b ls) ≡ max 1 (length ls)
 length-onto b [] = refl
@@ -48,6 +48,6 @@ pub first_uncut : (bs : List ℕ) → 0 < length bs → position (λ b. eqb b 10
 first_uncut bs some none =
     let p : ℕ → Bool = λ b. eqb b 10 in
     ⊎_elim
-    (λ found. absurd (none_some (sym none ∙ cond-true _ _ _ (lt-ltb (position_or_len p bs) (length bs) found))))
+    (λ found. absurd (none-some _ (sym none ∙ cond-true _ _ _ (lt-ltb (position_or_len p bs) (length bs) found))))
     (λ past. uncut bs some (λ k h. fails_before_first p bs k 0 (omega arith)))
     (cases_lt (position_or_len p bs) (length bs))

@@ -1,7 +1,7 @@
 // What comes of a line.
 use crate::print::{ClosedPeriod, Invoice};
 
-#[derive(Clone, Copy)]
+#[derive(Clone, Copy, Debug, PartialEq, Eq)]
 pub(crate) enum Answer {
     // nothing is printed
     Silent,

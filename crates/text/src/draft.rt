@@ -26,7 +26,7 @@ fn in_range(field: Field, n: i64) -> bool
 }
 
 // The values of the fields that were read, each 0 until it is.
-#[derive(Clone, Copy)]
+#[derive(Clone, Copy, Debug, PartialEq, Eq)]
 pub(crate) struct Draft {
     pub class: Class,
     pub asset: u64,

@@ -23,7 +23,7 @@ pub enum FormFault {
     OutOfRange(usize),
 }
 
-#[derive(Clone, Copy)]
+#[derive(Clone, Copy, Debug, PartialEq, Eq)]
 pub enum Fault {
     Form(FormFault),
     Book(book::Refusal),

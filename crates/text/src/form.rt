@@ -1,7 +1,7 @@
 // The forms: what a line says, and what its tokens are.
 use book::Class;
 
-#[derive(Clone, Copy)]
+#[derive(Clone, Copy, Debug, PartialEq, Eq)]
 pub enum Form {
     List {
         asset: u64,

@@ -18,14 +18,14 @@ pub struct Invoice {
 }
 
 // The end of a close: its period and what no claim took.
-#[derive(Clone, Copy)]
+#[derive(Clone, Copy, Debug, PartialEq, Eq)]
 pub struct ClosedPeriod {
     pub period: u64,
     pub residues: ByClass,
 }
 
 // Why a line was not taken.
-#[derive(Clone, Copy)]
+#[derive(Clone, Copy, Debug, PartialEq, Eq)]
 pub struct RefusedLine {
     pub line: usize,
     pub fault: Fault,

@@ -24,16 +24,11 @@ use std::alloc::{AllocError, Global};
 // The most bytes of an input.
 pub const INPUT_MOST: usize = 65_536;
 
-const NONE: ByClass = ByClass {
-    delivery: 0,
-    availability: 0,
-};
-
 const BLANK: Row = Row {
     asset: 0,
     award: 0,
-    taken: NONE,
-    share: NONE,
+    taken: ByClass::NONE,
+    share: ByClass::NONE,
     payment: 0,
     balance: 0,
 };
