@@ -1,10 +1,9 @@
 use Rattle.std.proofs.Common.{◌+◌, sym, ap, ◌∙◌, subst, arith, MatchOption}
-use Rattle.std.proofs.lemmas.List.{take_all}
 use Rattle.std.proofs.lemmas.List.Sums.{sum_by_more}
 use Rattle.book.specs.Account.{opened}
 use Rattle.std.specs.Option.{option_or}
 use Rattle.book.specs.Find.{FoundAt}
-use Rattle.book.specs.Accounts.{at, charge, charged, claim, claimed}
+use Rattle.book.specs.Accounts.{at, charge, claim}
 use Rattle.book.proofs.Places.{Before, found_all, found_more}
 use Rattle.book.proofs.find.find_with_totals.Goals as goal
 
@@ -19,12 +18,5 @@ loop-i-preserved c =
       omega (arith, c.of-charges.ensures.value, sum_by_more (charge class) xs i (opened 0 0) c.loop-i-test.true),
     )
 
-pub returns : goal.returns
-returns c =
-    let xs = c.args.accounts.now in
-    let all = take_all c.loop-i.i xs c.loop-i-test.false in
-    record {
-      cases = found_all c.args.asset xs c.loop-i.i c.loop-i.place c.loop-i-test.false c.loop-i.invariant.0;
-      claims = c.loop-i.invariant.1 ∙ ap (claimed c.args.class) all;
-      charges = c.loop-i.invariant.2 ∙ ap (charged c.args.class) all;
-    }
+pub returns-clause-cases : goal.returns-clause-cases
+returns-clause-cases c = found_all c.args.asset c.args.accounts.now c.loop-i.i c.loop-i.place c.loop-i-test.false c.loop-i.invariant.0

@@ -1,8 +1,7 @@
-use Rattle.std.proofs.Common.{◌≡◌, ◌+◌, ◌≤◌, sum_by, ap, ◌∙◌, arith, rules}
-use Rattle.std.proofs.lemmas.List.{take_all}
+use Rattle.std.proofs.Common.{◌≡◌, ◌+◌, ◌≤◌, arith, rules}
 use Rattle.std.proofs.lemmas.List.Sums.{sum_by_more, sum_by-take-le}
 use Rattle.book.specs.Account.{opened}
-use Rattle.book.specs.Accounts.{at, charge, charged}
+use Rattle.book.specs.Accounts.{at, charge}
 use Rattle.book.specs.Close.{taken_of}
 use Rattle.book.proofs.Closes.{of_le}
 use Rattle.book.proofs.pooling.taken_by_all.Goals as goal
@@ -24,12 +23,3 @@ loop-account-preserved c =
       omega (arith, this, sum_by_more (taken_of c.args.year c.args.class) xs i (opened 0 0) c.loop-account-test.true),
       omega (arith, part, sum_by_more (charge c.args.class) xs i (opened 0 0) c.loop-account-test.true),
     )
-
-pub returns : goal.returns
-returns c =
-    let xs = c.args.accounts.now in
-    let all = take_all c.loop-account.account-index xs c.loop-account-test.false in
-    record {
-      value = c.loop-account.invariant.0 ∙ ap (sum_by (taken_of c.args.year c.args.class)) all;
-      bound = omega (arith, ap (charged c.args.class) all);
-    }
