@@ -95,9 +95,7 @@ impl<'a> Cursor<'a> {
         let sort = Sort::from(*first);
         let len = piece_len(rest, sort);
         let (bytes, rest) = rest.split_at(len);
-        let Some(token) = token_of(sort, bytes) else {
-            return Err(TextFault::NoToken(place + 1));
-        };
+        let token = token_of(sort, bytes).ok_or(TextFault::NoToken(place + 1))?;
         *self = Cursor {
             rest,
             at: place + len,

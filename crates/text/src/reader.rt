@@ -64,9 +64,7 @@ impl<'a> Cursor<'a> {
         ensures { HeadRead self.old result self.new }
     {
         self.accept(Item::Open)?;
-        let Some(word) = self.next_token()? else {
-            return Err(FormFault::NoForm(self.end()));
-        };
+        let word = self.next_token()?.ok_or(FormFault::NoForm(self.end()))?;
         verb_in(word.token).ok_or(FormFault::NoForm(word.place + 1))
     }
 
