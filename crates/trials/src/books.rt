@@ -30,7 +30,7 @@ pub fn unlayered(rt: &HostRuntime) -> Result<Player<'_, ProRata, Whole, 64>, All
 }
 
 // A rule and a pile that the libraries know nothing of.
-pub fn own(rt: &HostRuntime) -> Result<Player<'_, LastFirst, Halved, 3>, AllocError> {
+pub fn own_rules(rt: &HostRuntime) -> Result<Player<'_, LastFirst, Halved, 3>, AllocError> {
     let book = Book::open(rt.alloc(), LastFirst, Halved)?;
     Ok(Player { rt, book })
 }

@@ -1,9 +1,8 @@
 // Invoices, and what they are credited to.
 use crate::act::Act;
-use crate::books::pro_rata;
 use book::Class;
 
-const SUMS: [Act; 27] = [
+pub const SUMS: [Act; 27] = [
     Act::ListTo(6),
     Act::Term(1, 1_000, 500, true),
     Act::Term(2, 1_000, 500, true),
@@ -34,7 +33,7 @@ const SUMS: [Act; 27] = [
 ];
 
 // Charges that stand over the turn of the year, and a debt of two thousand million.
-const CREDITS: [Act; 43] = [
+pub const CREDITS: [Act; 43] = [
     Act::List(7, 1),
     Act::List(8, 1),
     Act::List(9, 1),
@@ -80,7 +79,7 @@ const CREDITS: [Act; 43] = [
     Act::Close(5),
 ];
 
-const YEARS_APART: [Act; 6] = [
+pub const YEARS_APART: [Act; 6] = [
     Act::List(7, 1),
     Act::Term(7, 1_000, 500, true),
     Act::Months(24),
@@ -88,9 +87,3 @@ const YEARS_APART: [Act; 6] = [
     Act::Term(7, 600, 0, false),
     Act::Look(7),
 ];
-
-pub fn play_invoices(rt: &HostRuntime) -> anyhow::Result<()> {
-    pro_rata(rt)?.play("invoices", &SUMS)?;
-    pro_rata(rt)?.play("a year before invoices", &CREDITS)?;
-    pro_rata(rt)?.play("a year without a term between", &YEARS_APART)
-}

@@ -1,10 +1,9 @@
 // Limits that are reached exactly, and passed by one cent.
 use crate::act::Act;
-use crate::books::pro_rata;
 use book::Class;
 
 // Charges and open pool count together.
-const TOTALS: [Act; 51] = [
+pub const TOTALS: [Act; 51] = [
     Act::List(7, 1),
     Act::List(8, 1),
     Act::List(9, 1),
@@ -59,7 +58,7 @@ const TOTALS: [Act; 51] = [
     Act::Pools,
 ];
 
-const ENTRIES: [Act; 24] = [
+pub const ENTRIES: [Act; 24] = [
     Act::List(7, 1),
     Act::List(8, 1),
     Act::Term(7, 0, 500, true),
@@ -86,7 +85,7 @@ const ENTRIES: [Act; 24] = [
     Act::Uplift(7, 1_000_000_000),
 ];
 
-const BALANCES: [Act; 16] = [
+pub const BALANCES: [Act; 16] = [
     Act::List(7, 1),
     Act::Resolve(7, -1_000_000_000),
     Act::Months(1),
@@ -104,9 +103,3 @@ const BALANCES: [Act; 16] = [
     Act::Term(7, 500, 100, true),
     Act::Look(7),
 ];
-
-pub fn play_limits(rt: &HostRuntime) -> anyhow::Result<()> {
-    pro_rata(rt)?.play("class totals", &TOTALS)?;
-    pro_rata(rt)?.play("the month's entries", &ENTRIES)?;
-    pro_rata(rt)?.play("balances at a term", &BALANCES)
-}

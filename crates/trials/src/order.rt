@@ -1,10 +1,9 @@
 // Calls on which several grounds of refusal hold: the lowest number is named.
 use crate::act::Act;
-use crate::books::pro_rata;
 use book::Class;
 
 // Where several grounds hold, they stand beside the act. Asset 9 is not listed before the end, and no asset has a term at first.
-const GROUNDS: [Act; 56] = [
+pub const GROUNDS: [Act; 56] = [
     Act::List(7, 1),
     Act::List(8, 1),
     Act::List(7, 1_000), // 4 and 6
@@ -63,7 +62,3 @@ const GROUNDS: [Act; 56] = [
     Act::ResolveTwice(9, 5),
     Act::Look(9),
 ];
-
-pub fn play_order(rt: &HostRuntime) -> anyhow::Result<()> {
-    pro_rata(rt)?.play("several grounds, before a term", &GROUNDS)
-}

@@ -1,9 +1,8 @@
 // A book of a sharing rule and a pile that the libraries know nothing of.
 use crate::act::Act;
-use crate::books::own;
 use book::Class;
 
-const THREE_SEATS: [Act; 17] = [
+pub const THREE_SEATS: [Act; 17] = [
     Act::ListTo(3),
     Act::List(4, 1),
     Act::List(3, 1),
@@ -22,10 +21,3 @@ const THREE_SEATS: [Act; 17] = [
     Act::Close(3),
     Act::List(4, 1),
 ];
-
-pub fn play_own(rt: &HostRuntime) -> anyhow::Result<()> {
-    own(rt)?.play(
-        "a rule of three seats and a pile that pays half",
-        &THREE_SEATS,
-    )
-}

@@ -1,9 +1,8 @@
 // Sums paid in, up to exactly what is owed.
 use crate::act::Act;
-use crate::books::pro_rata;
 use book::Class;
 
-const PAYINS: [Act; 20] = [
+pub const PAYINS: [Act; 20] = [
     Act::List(7, 1),
     Act::Term(7, 0, 500, true),
     Act::Resolve(7, -20),
@@ -25,7 +24,3 @@ const PAYINS: [Act; 20] = [
     Act::Payin(7, 1),
     Act::Close(1),
 ];
-
-pub fn play_payins(rt: &HostRuntime) -> anyhow::Result<()> {
-    pro_rata(rt)?.play("payins", &PAYINS)
-}

@@ -1,9 +1,8 @@
 // What is paid of a total, and what is carried.
 use crate::act::Act;
-use crate::books::{capped, pro_rata, unlayered};
 use book::Class;
 
-const CAP_AND_FLOOR: [Act; 11] = [
+pub const CAP_AND_FLOOR: [Act; 11] = [
     Act::List(7, 1),
     Act::Term(7, 400, 500, true),
     Act::Uplift(7, 400),
@@ -18,7 +17,7 @@ const CAP_AND_FLOOR: [Act; 11] = [
 ];
 
 // Asset 7 is ready late, asset 8 is committed to nothing, asset 9 owes by its award.
-const WITHHELD: [Act; 18] = [
+pub const WITHHELD: [Act; 18] = [
     Act::List(7, 1),
     Act::List(8, 1),
     Act::List(9, 1),
@@ -40,7 +39,7 @@ const WITHHELD: [Act; 18] = [
 ];
 
 // Withheld for a year, and then paid up to the cap without a term.
-const LARGE_SUMS: [Act; 9] = [
+pub const LARGE_SUMS: [Act; 9] = [
     Act::List(7, 1),
     Act::Term(7, 1_000_000_000, 1, false),
     Act::Months(12),
@@ -52,7 +51,7 @@ const LARGE_SUMS: [Act; 9] = [
     Act::Close(1),
 ];
 
-const OTHER_PILES: [Act; 6] = [
+pub const OTHER_PILES: [Act; 6] = [
     Act::List(7, 1),
     Act::Term(7, 400, 500, false),
     Act::Resolve(7, -401),
@@ -60,11 +59,3 @@ const OTHER_PILES: [Act; 6] = [
     Act::Uplift(7, 10_000),
     Act::Close(1),
 ];
-
-pub fn play_payments(rt: &HostRuntime) -> anyhow::Result<()> {
-    pro_rata(rt)?.play("cap and floor", &CAP_AND_FLOOR)?;
-    pro_rata(rt)?.play("withheld until ready", &WITHHELD)?;
-    pro_rata(rt)?.play("large sums", &LARGE_SUMS)?;
-    capped(rt)?.play("a pile of a cap alone", &OTHER_PILES)?;
-    unlayered(rt)?.play("a pile without a layer", &OTHER_PILES)
-}

@@ -1,9 +1,8 @@
 // Empty and full books, and row lists of any length.
 use crate::act::Act;
-use crate::books::{by_rank, pro_rata};
 use book::Class;
 
-const FEW: [Act; 7] = [
+pub const FEW: [Act; 7] = [
     Act::Close(0),
     Act::Close(3),
     Act::Pools,
@@ -13,7 +12,7 @@ const FEW: [Act; 7] = [
     Act::Close(5),
 ];
 
-const FULL: [Act; 16] = [
+pub const FULL: [Act; 16] = [
     Act::ListTo(64),
     Act::List(65, 1),
     Act::List(65, 1_000),
@@ -31,8 +30,3 @@ const FULL: [Act; 16] = [
     Act::List(65, 1),
     Act::Pools,
 ];
-
-pub fn play_places(rt: &HostRuntime) -> anyhow::Result<()> {
-    pro_rata(rt)?.play("an empty book and row lists", &FEW)?;
-    by_rank(rt)?.play("a full book", &FULL)
-}

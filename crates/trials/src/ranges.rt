@@ -1,9 +1,8 @@
 // Values at the ends of their ranges, and one past each end.
 use crate::act::Act;
-use crate::books::pro_rata;
 use book::Class;
 
-const ENDS: [Act; 70] = [
+pub const ENDS: [Act; 70] = [
     Act::List(0, 1),
     Act::List(10_000, 1),
     Act::List(u64::MAX, 1),
@@ -75,7 +74,3 @@ const ENDS: [Act; 70] = [
     Act::Resolve(1, -1_000_000_000),
     Act::Resolve(1, 1_000_000_000),
 ];
-
-pub fn play_ranges(rt: &HostRuntime) -> anyhow::Result<()> {
-    pro_rata(rt)?.play("assets and holders", &ENDS)
-}

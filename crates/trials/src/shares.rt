@@ -1,9 +1,8 @@
 // What closes take of charges, and how they share it.
 use crate::act::Act;
-use crate::books::{by_rank, pro_rata};
 use book::Class;
 
-const CLAIMS: [Act; 17] = [
+pub const CLAIMS: [Act; 17] = [
     Act::ListTo(4),
     Act::Term(1, 100, 500, true),
     Act::Term(2, 100, 500, true),
@@ -23,7 +22,7 @@ const CLAIMS: [Act; 17] = [
     Act::Close(4),
 ];
 
-const SET_OFF: [Act; 12] = [
+pub const SET_OFF: [Act; 12] = [
     Act::List(7, 1),
     Act::List(8, 1),
     Act::Term(7, 0, 500, true),
@@ -38,7 +37,7 @@ const SET_OFF: [Act; 12] = [
     Act::Close(2),
 ];
 
-const NEGATIVE_AWARD: [Act; 10] = [
+pub const NEGATIVE_AWARD: [Act; 10] = [
     Act::ListTo(2),
     Act::Term(1, -400, 500, true),
     Act::Term(2, 400, 500, true),
@@ -51,7 +50,7 @@ const NEGATIVE_AWARD: [Act; 10] = [
     Act::Close(2),
 ];
 
-const DELIVERY_FIRST: [Act; 11] = [
+pub const DELIVERY_FIRST: [Act; 11] = [
     Act::List(7, 1),
     Act::List(8, 1),
     Act::Term(7, 100, 500, true),
@@ -64,11 +63,3 @@ const DELIVERY_FIRST: [Act; 11] = [
     Act::Resolve(7, 60),
     Act::Close(2),
 ];
-
-pub fn play_shares(rt: &HostRuntime) -> anyhow::Result<()> {
-    pro_rata(rt)?.play("claims pro rata", &CLAIMS)?;
-    by_rank(rt)?.play("claims by rank", &CLAIMS)?;
-    pro_rata(rt)?.play("a claim beside a charge", &SET_OFF)?;
-    by_rank(rt)?.play("a negative award", &NEGATIVE_AWARD)?;
-    pro_rata(rt)?.play("delivery first", &DELIVERY_FIRST)
-}

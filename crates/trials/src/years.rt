@@ -1,9 +1,8 @@
 // What changes from year to year, and the end of all periods.
 use crate::act::Act;
-use crate::books::pro_rata;
 use book::Class;
 
-const CAP_BASE: [Act; 25] = [
+pub const CAP_BASE: [Act; 25] = [
     Act::List(7, 1),
     Act::Term(7, 1_000, 500, true),
     Act::Look(7),
@@ -31,7 +30,7 @@ const CAP_BASE: [Act; 25] = [
     Act::Look(7),
 ];
 
-const LISTED_LATE: [Act; 14] = [
+pub const LISTED_LATE: [Act; 14] = [
     Act::List(7, 1),
     Act::Term(7, 100, 500, true),
     Act::Months(5),
@@ -48,7 +47,7 @@ const LISTED_LATE: [Act; 14] = [
     Act::Close(3),
 ];
 
-const LAST_PERIODS: [Act; 27] = [
+pub const LAST_PERIODS: [Act; 27] = [
     Act::List(7, 1),
     Act::Term(7, 100, 500, true),
     Act::Months(359),
@@ -77,9 +76,3 @@ const LAST_PERIODS: [Act; 27] = [
     Act::Pools,
     Act::Close(3),
 ];
-
-pub fn play_years(rt: &HostRuntime) -> anyhow::Result<()> {
-    pro_rata(rt)?.play("the cap base", &CAP_BASE)?;
-    pro_rata(rt)?.play("listed late", &LISTED_LATE)?;
-    pro_rata(rt)?.play("the last periods", &LAST_PERIODS)
-}
