@@ -68,7 +68,7 @@ fn room_for<R: Seats<N>, P: PaymentRule, const N: usize>(
     book: &Book<R, P, N>,
     lines: usize,
 ) -> usize
-    requires { lines ≤ input_most }
+    requires { lines ≤ input_most + 1 }
     ensures value { result ≡ needed lines (view book.now) }
 {
     let closes = CLOSES_MOST.saturating_sub(book.closes()) as usize;
