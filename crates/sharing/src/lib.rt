@@ -41,11 +41,6 @@ mod tests {
         assert_eq!(rt; ProRata.share(9, &[], &mut []), Ok(()));
     }
 
-    // What becomes of a list of sevens, and whether the call was taken.
-    fn tried<R: SharingRule>(rule: &R, pool: u64, claims: &[u64], into: &mut [u64]) -> bool {
-        rule.share(pool, claims, into).is_ok()
-    }
-
     #[test]
     fn refuses_and_leaves_the_list(rt: HostRuntime) {
         let most = MOST_CENTS;
@@ -59,13 +54,19 @@ mod tests {
             Err(Refusal::Unshareable)
         );
         let mut short = [7; 2];
-        assert!(rt; !tried(&ProRata, 1, &[1, 1, 1], &mut short));
+        assert_eq!(rt;
+            ProRata.share(1, &[1, 1, 1], &mut short),
+            Err(Refusal::Unshareable)
+        );
         assert_eq!(rt; short, [7; 2]);
         let mut full = [7; 64];
-        assert!(rt; tried(&ProRata, 64, &[1; 64], &mut full));
+        assert_eq!(rt; ProRata.share(64, &[1; 64], &mut full), Ok(()));
         assert_eq!(rt; full, [1; 64]);
         let mut over = [7; 65];
-        assert!(rt; !tried(&ByRank, 1, &[1; 65], &mut over));
+        assert_eq!(rt;
+            ByRank.share(1, &[1; 65], &mut over),
+            Err(Refusal::Unshareable)
+        );
         assert_eq!(rt; over, [7; 65]);
         assert_eq!(rt; Refusal::Unshareable.number(), 19);
     }

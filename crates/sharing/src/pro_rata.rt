@@ -7,7 +7,7 @@ ghost use Rattle.sharing.specs.Quotients;
 ghost use Rattle.std.proofs.Common.{rules};
 
 use crate::refusal::Refusal;
-use crate::rule::{Seats, SharingRule, admitted};
+use crate::rule::{Seats, SharingRule};
 
 #[derive(Clone, Copy, Debug, PartialEq, Eq)]
 pub struct ProRata;
@@ -62,7 +62,7 @@ impl SharingRule for ProRata {
         ensures rounding { is_ok result ≡ true → NoCentLost pool claims.now into.new }
         ensures exact { is_ok result ≡ true → WithinACent pool claims.now into.new }
     {
-        let sum = admitted(Self::SERVES, pool, claims, into.len())?;
+        let sum = Self::admitted(pool, claims, into.len())?;
         allot(pool, sum, claims, into);
         Ok(())
     }

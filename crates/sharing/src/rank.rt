@@ -7,7 +7,7 @@ ghost use Rattle.sharing.specs.Ranks;
 ghost use Rattle.std.proofs.Common.{rules};
 
 use crate::refusal::Refusal;
-use crate::rule::{Seats, SharingRule, admitted};
+use crate::rule::{Seats, SharingRule};
 
 #[derive(Clone, Copy, Debug, PartialEq, Eq)]
 pub struct ByRank;
@@ -47,7 +47,7 @@ impl SharingRule for ByRank {
         ensures after { into.new ≡ (if is_ok result then by_rank pool claims.now else into.old) }
         ensures order { is_ok result ≡ true → EarlierFirst claims.now into.new }
     {
-        admitted(Self::SERVES, pool, claims, into.len())?;
+        Self::admitted(pool, claims, into.len())?;
         meet(pool, claims, into);
         Ok(())
     }

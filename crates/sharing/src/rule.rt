@@ -23,6 +23,17 @@ pub trait SharingRule {
         Self::SERVES
     }
 
+    // What the claims come to, where the rule takes them with this pool and so many places for shares.
+    fn admitted(pool: u64, claims: &[u64], places: usize) -> Result<u64, Refusal>
+        ensures cases { RefusedUnless (Shareable SERVES pool claims.now places) 19 (refusal result) }
+        ensures value { IfOk result (λ total. total ≡ sum claims.now) }
+    {
+        if claims.len() != places || claims.len() > Self::SERVES || pool > MOST_CENTS {
+            return Err(Refusal::Unshareable);
+        }
+        total(claims).ok_or(Refusal::Unshareable)
+    }
+
     // Writes the share of each claim into `into`, or refuses and leaves it.
     fn share(&self, pool: u64, claims: &[u64], into: &mut [u64]) -> Result<(), Refusal>
         ensures cases { RefusedUnless (Shareable SERVES pool claims.now (length into.old)) 19 (refusal result) }
@@ -50,20 +61,4 @@ fn total(claims: &[u64]) -> Option<u64>
         .iter()
         .try_fold(0u64, |sum, claim| sum.checked_add(*claim))
         .filter(|sum| *sum <= MOST_CENTS)
-}
-
-// The sum of the claims, where a rule that serves so many takes them.
-pub(crate) fn admitted(
-    serves: usize,
-    pool: u64,
-    claims: &[u64],
-    places: usize,
-) -> Result<u64, Refusal>
-    ensures cases { RefusedUnless (Shareable serves pool claims.now places) 19 (refusal result) }
-    ensures value { IfOk result (λ total. total ≡ sum claims.now) }
-{
-    if claims.len() != places || claims.len() > serves || pool > MOST_CENTS {
-        return Err(Refusal::Unshareable);
-    }
-    total(claims).ok_or(Refusal::Unshareable)
 }

@@ -1,25 +1,13 @@
 // A sharing rule of the trials' own: the last claim first, for three claims.
-ghost use Rattle.std.specs.Prelude.{◌≡◌, ◌+◌, min, length, sum as added};
-ghost use Rattle.sharing.specs.Rule.{most_cents};
+ghost use Rattle.std.specs.Prelude.{◌≡◌, length, sum as added};
 ghost use Rattle.trials.specs.LastFirst.{last_first};
 ghost use Rattle.trials.specs.Lasts;
 ghost use Rattle.std.proofs.Common.{rules};
 
-use sharing::{MOST_CENTS, Refusal, Seats, SharingRule};
+use sharing::{Refusal, Seats, SharingRule};
 
 #[derive(Clone, Copy, Debug, PartialEq, Eq)]
 pub struct LastFirst;
-
-// What the claims come to, and one cent more than the limit where they pass it.
-fn total(claims: &[u64]) -> u64
-    ensures value { result ≡ min (added claims.now) (most_cents + 1) }
-{
-    let mut sum = 0u64;
-    for claim in claims {
-        sum = sum.saturating_add(*claim).min(MOST_CENTS + 1);
-    }
-    sum
-}
 
 // Meets each claim out of what the later ones leave of the pool.
 fn meet(pool: u64, sum: u64, claims: &[u64], into: &mut [u64])
@@ -49,14 +37,7 @@ impl SharingRule for LastFirst {
     ghost whole = { Lasts.whole };
 
     fn share(&self, pool: u64, claims: &[u64], into: &mut [u64]) -> Result<(), Refusal> {
-        let sum = total(claims);
-        if claims.len() != into.len()
-            || claims.len() > Self::SERVES
-            || pool > MOST_CENTS
-            || sum > MOST_CENTS
-        {
-            return Err(Refusal::Unshareable);
-        }
+        let sum = Self::admitted(pool, claims, into.len())?;
         meet(pool, sum, claims, into);
         Ok(())
     }
