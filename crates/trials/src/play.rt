@@ -6,6 +6,7 @@ use crate::tell::{
 use book::{Book, Class};
 use payment::PaymentRule;
 use sharing::Seats;
+use std::alloc::AllocError;
 use std::io;
 
 // The most rows that a close is given here.
@@ -14,11 +15,21 @@ const ROWS: usize = 64;
 // A book that acts are played on, and what their answers are printed by.
 #[derive(Drop)]
 pub struct Player<'a, R: Seats<N>, P: PaymentRule, const N: usize> {
-    pub rt: &'a HostRuntime,
-    pub book: Book<R, P, N>,
+    pub(crate) rt: &'a HostRuntime,
+    pub(crate) book: Book<R, P, N>,
 }
 
 impl<'a, R: Seats<N>, P: PaymentRule, const N: usize> Player<'a, R, P, N> {
+    // With an empty book of this rule and this pile.
+    pub fn open(rt: &'a HostRuntime, rule: R, pile: P) -> Result<Player<'a, R, P, N>, AllocError>
+    where
+        R: Drop,
+        P: Drop,
+    {
+        let book = Book::open(rt.alloc(), rule, pile)?;
+        Ok(Player { rt, book })
+    }
+
     fn look(&self, act: &Act, asset: u64) -> io::Result<()> {
         match self.book.account(asset) {
             Ok(account) => {

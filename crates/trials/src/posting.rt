@@ -9,9 +9,7 @@ use std::io;
 
 // Of an asset and a sum: a paper is filed, offered the sum and accepted. None where the papers refuse the asset or the sum.
 fn resolution_of(asset: u64, cents: i64) -> Option<Resolution> {
-    let Ok(filed) = Filed::file(asset, 1, 5) else {
-        return None;
-    };
+    let filed = Filed::file(asset, 1, 5).ok()?;
     match filed.offer(cents, 100) {
         Ok(served) => Some(served.accept(130).unwrap()),
         Err((filed, _)) => {
