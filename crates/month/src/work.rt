@@ -21,6 +21,18 @@ fn shares_of<R: SharingRule>(
     Ok(places)
 }
 
+// The shares pro rata, and those by rank.
+fn by_both(
+    pool: u64,
+    claims: &[u64],
+    places: Vec<u64>,
+    more_places: Vec<u64>,
+) -> Result<(Vec<u64>, Vec<u64>), Refusal> {
+    let parts = shares_of(&ProRata, pool, claims, places)?;
+    let ranked = shares_of(&ByRank, pool, claims, more_places)?;
+    Ok((parts, ranked))
+}
+
 // What of a pool the shares leave.
 fn residue(pool: u64, shares: &[u64]) -> u64
     ensures value { result ≡ pool - sum shares.now }
@@ -65,11 +77,9 @@ pub fn print_month(rt: &HostRuntime, month: &Month) -> anyhow::Result<()> {
     let claims = month.claims.as_slice();
     let places = vec![in rt.alloc(); 0; claims.len()]?;
     let more_places = places.clone()?;
-    let parts = shares_of(&ProRata, pool, claims, places);
-    let ranked = shares_of(&ByRank, pool, claims, more_places);
-    let (parts, ranked) = match (parts, ranked) {
-        (Ok(parts), Ok(ranked)) => (parts, ranked),
-        (Err(why), _) | (_, Err(why)) => {
+    let (parts, ranked) = match by_both(pool, claims, places, more_places) {
+        Ok(shares) => shares,
+        Err(why) => {
             let number = why.number();
             println!(rt;
                 "the pool of {pool} cannot be shared (refusal {number}); nothing is worked"
