@@ -1,13 +1,11 @@
 -- What every book keeps, over a new account and over a change of one.
 -- Assumes nothing.
-use Rattle.std.proofs.Common.{◌≡◌, ℕ, zero, suc, ◌+◌, ◌*◌, ◌<◌, ◌≤◌, false, eqb, List, [], ◌∷◌, ◌++◌, length, set, ℤ, ◌+ℤ◌, neg_ℤ, vec_items, sum_by, sym, refl, ap, ◌∙◌, subst, ⊎_elim, le_of_suc-le-suc, not-suc-le-zero, arith}
+use Rattle.std.proofs.Common.{◌≡◌, ℕ, zero, suc, ◌+◌, ◌*◌, ◌<◌, ◌≤◌, false, eqb, List, [], ◌∷◌, ◌++◌, length, set, ℤ, ◌+ℤ◌, neg_ℤ, sum_by, sym, refl, ap, ◌∙◌, subst, ⊎_elim, le_of_suc-le-suc, not-suc-le-zero, arith}
 use Rattle.std.proofs.lemmas.List.{get_or_append_left, get_or_push, get_or-set_other, get_or-set_same, length_push, length-set}
 use Rattle.std.proofs.lemmas.Int.{ints}
 use Rattle.std.proofs.lemmas.List.Sums.{get_or-le-sum_by, sum_by_push, sum_by-set}
 use Rattle.std.proofs.lemmas.Bool.{cases_eq, cases_lt, eqb-false, or_parts}
 use Rattle.sharing.specs.Rule.{most_cents}
-use Rattle.sharing.specs.declared.rule.SharingRule.{Ghosts as Sharing}
-use Rattle.payment.specs.declared.rule.PaymentRule.{Ghosts as Paying}
 use Rattle.book.specs.Account.{EitherWay, balance, RangedLedger, RangedName, RangedTerms, opened}
 use Rattle.book.specs.Accounts.{Differ, Each, at, charge, charged, claim, claimed, listed}
 use Rattle.book.specs.Class.{both, minus, more, none, of, plus}
@@ -23,7 +21,6 @@ use Rattle.book.proofs.Ways.{credited_within}
 use Rattle.book.specs.declared.spot.Spot.{Spot}
 use Rattle.book.specs.declared.account.Ledger.{Ledger}
 use Rattle.book.specs.declared.account.Terms.{Terms}
-use Rattle.book.specs.declared.book.Book.{Book}
 use Rattle.book.specs.declared.class.ByClass.{ByClass}
 use Rattle.book.specs.declared.class.Class.{Class}
 use Rattle.book.specs.declared.class.Class.TheVariants.{Availability, Delivery}
@@ -71,17 +68,6 @@ same_asset xs k y within its i =
 pub differ_set : (xs : List Account) (k : ℕ) (y : Account) → k < length xs → (at k xs).asset ≡ y.asset → Differ xs → Differ (set xs k y)
 differ_set xs k y within its differ i j less h same =
     differ i j less (omega (arith, length-set xs k y)) (sym (same_asset xs k y within its i) ∙ same ∙ same_asset xs k y within its j)
-
-pub kept_by : {R P : Type 0} {N : ℕ} {g : Sharing R} {h : Paying P} (b : Book R P N g h) → Kept N b.closes b.pools (vec_items b.accounts)
-kept_by b = record {
-  few = b.few;
-  differ = b.differ;
-  names = b.names_ranged;
-  terms = b.terms_ranged;
-  ledgers = b.ledgers_ranged;
-  claims = b.claims_within;
-  charges = b.charges_within;
-}
 
 of_none : (class : Class) → of class none ≡ 0
 of_none Delivery = refl

@@ -4,7 +4,7 @@ use Rattle.book.specs.Calls.{on_ledger}
 use Rattle.book.specs.Entries.{adding}
 use Rattle.book.specs.Kept.{Kept}
 use Rattle.book.specs.Limits.{entries_most, off_way}
-use Rattle.book.proofs.Sound.{kept_adding, kept_by}
+use Rattle.book.proofs.Sound.{kept_adding}
 use Rattle.book.specs.declared.refusal.Refusal.TheVariants.{PastLimit}
 use Rattle.book.proofs.Steps.{added_past}
 use Rattle.book.proofs.Ways.{not_off}
@@ -22,7 +22,7 @@ put-requires g c =
       (
         found.within,
         subst (λ a. Kept g.row.N b.closes b.pools (set xs spot.place a)) (sym account)
-            (kept_adding g.row.N b.closes b.pools xs spot.account.asset c.args.cents spot (kept_by b) found
+            (kept_adding g.row.N b.closes b.pools xs spot.account.asset c.args.cents spot b.kept found
             (not_off entries_most (spot.account.ledger.entries +ℤ c.args.cents) within)),
       ),
     )

@@ -8,7 +8,6 @@ use Rattle.book.specs.Kept.{Kept}
 use Rattle.book.specs.State.{state, year}
 use Rattle.book.specs.declared.class.Class.TheVariants.{Delivery}
 use Rattle.book.proofs.AfterClose.{all_closable, kept_after, same_work}
-use Rattle.book.proofs.Sound.{kept_by}
 use Rattle.book.proofs.book.Book.close_with.Goals as goal
 
 pub settle_all-requires : goal.settle_all-requires
@@ -19,7 +18,7 @@ settle_all-requires g c =
         search rules,
         (
           search rules,
-          all_closable g.row.N (view b) (kept_by b) g.R.SharingRule.shares g.met.R.SharingRule.within g.P.PaymentRule.pays g.P.PaymentRule.limits g.met.P.PaymentRule.owes
+          all_closable g.row.N (view b) b.kept g.R.SharingRule.shares g.met.R.SharingRule.within g.P.PaymentRule.pays g.P.PaymentRule.limits g.met.P.PaymentRule.owes
               b.in_time c.as_mut_slice.result.now c.share_class.new.shares c.share_class-2.new.shares
               c.as_mut_slice.ensures.value c.share_class.ensures.after c.share_class-2.ensures.after,
         ),
@@ -36,16 +35,9 @@ invariant_of-self-2 g c =
     c.year-year.ensures.value c.as_mut_slice.ensures.value c.share_class.ensures.after c.share_class-2.ensures.after in
     let same : vec_items (with_items b.accounts c.settle_all.new.accounts) ≡ (closed_state rule pays s).accounts =
     with_items_is b.accounts c.settle_all.new.accounts (search rules) ∙ c.settle_all.ensures.accounts ∙ written in
-    let k = subst (Kept g.row.N (b.closes + 1) none) (sym same) (kept_after g.row.N s (kept_by b) rule g.met.R.SharingRule.within pays g.P.PaymentRule.limits g.met.P.PaymentRule.owes) in
     record {
       room = b.room;
-      few = k.few;
-      differ = k.differ;
-      names_ranged = k.names;
-      terms_ranged = k.terms;
-      ledgers_ranged = k.ledgers;
-      claims_within = k.claims;
-      charges_within = k.charges;
+      kept = subst (Kept g.row.N (b.closes + 1) none) (sym same) (kept_after g.row.N s b.kept rule g.met.R.SharingRule.within pays g.P.PaymentRule.limits g.met.P.PaymentRule.owes);
       in_time = omega (arith, c.requires.0);
     }
 

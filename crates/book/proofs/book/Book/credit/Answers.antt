@@ -6,7 +6,7 @@ use Rattle.book.specs.Class.{plus}
 use Rattle.book.specs.Entries.{credited, settled}
 use Rattle.book.specs.Kept.{Kept}
 use Rattle.book.specs.declared.class.Class.TheVariants.{Availability, Delivery}
-use Rattle.book.proofs.Sound.{kept_by, kept_crediting, spot_within}
+use Rattle.book.proofs.Sound.{kept_crediting, spot_within}
 use Rattle.book.proofs.Steps.{paid_at}
 use Rattle.book.proofs.book.Book.credit.Goals as goal
 
@@ -16,7 +16,7 @@ plus-pools-requires g c =
     let xs = vec_items b.accounts in
     let d = spot_within (charge Delivery) xs c.args.spot.account.asset c.args.spot c.requires.0 in
     let a = spot_within (charge Availability) xs c.args.spot.account.asset c.args.spot c.requires.0 in
-    (omega (arith, d, b.charges_within Delivery, c.settled.ensures.bound.0), omega (arith, a, b.charges_within Availability, c.settled.ensures.bound.1))
+    (omega (arith, d, b.kept.charges Delivery, c.settled.ensures.bound.0), omega (arith, a, b.kept.charges Availability, c.settled.ensures.bound.1))
 
 pub put-requires : goal.put-requires
 put-requires g c =
@@ -31,7 +31,7 @@ put-requires g c =
         found.within,
         subst (λ pools. Kept g.row.N b.closes pools (set xs spot.place (on_terms (λ _. c.args.terms) c.credited.result))) (sym pooled)
             (subst (λ a. Kept g.row.N b.closes (plus b.pools (settled c.args.cents spot.account.ledger.charges)) (set xs spot.place (on_terms (λ _. c.args.terms) a))) (sym account)
-            (kept_crediting g.row.N b.closes b.pools xs spot.account.asset c.args.cents c.args.terms spot (kept_by b) found c.requires.1.0 c.requires.1.1.0)),
+            (kept_crediting g.row.N b.closes b.pools xs spot.account.asset c.args.cents c.args.terms spot b.kept found c.requires.1.0 c.requires.1.1.0)),
       ),
     )
 

@@ -4,7 +4,7 @@ use Rattle.book.specs.Account.{ledger_of}
 use Rattle.book.specs.Accounts.{claimed}
 use Rattle.book.specs.Calls.{on_ledger}
 use Rattle.book.specs.Kept.{Kept}
-use Rattle.book.proofs.Sound.{kept_by, kept_claiming}
+use Rattle.book.proofs.Sound.{kept_claiming}
 use Rattle.book.proofs.book.Book.over.Goals as goal
 
 pub put-requires : goal.put-requires
@@ -19,6 +19,6 @@ put-requires g c =
         found.within,
         subst (λ pair. Kept g.row.N b.closes b.pools (set xs spot.place (on_ledger (λ l. ledger_of l.general l.entries pair l.charges) spot.account)))
             (sym c.more-account.ensures.value)
-            (kept_claiming g.row.N b.closes b.pools xs c.args.asset c.args.cents c.args.class spot (kept_by b) found room),
+            (kept_claiming g.row.N b.closes b.pools xs c.args.asset c.args.cents c.args.class spot b.kept found room),
       ),
     )

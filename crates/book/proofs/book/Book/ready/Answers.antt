@@ -1,6 +1,6 @@
 use Rattle.std.proofs.Common.{vec_items, rules}
 use Rattle.book.specs.Calls.{marked}
-use Rattle.book.proofs.Sound.{kept_by, kept_terms}
+use Rattle.book.proofs.Sound.{kept_terms}
 use Rattle.book.proofs.book.Book.ready.Goals as goal
 
 pub put-requires : goal.put-requires
@@ -12,7 +12,7 @@ put-requires g c =
       search rules,
       (
         found.within,
-        kept_terms g.row.N b.closes b.pools xs c.args.asset (marked spot.account.terms) spot (kept_by b) found
+        kept_terms g.row.N b.closes b.pools xs c.args.asset (marked spot.account.terms) spot b.kept found
             spot.ranged,
       ),
     )

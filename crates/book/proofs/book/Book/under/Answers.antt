@@ -5,7 +5,7 @@ use Rattle.book.specs.Accounts.{charged}
 use Rattle.book.specs.Class.{of}
 use Rattle.book.specs.Calls.{on_ledger}
 use Rattle.book.specs.Kept.{Kept}
-use Rattle.book.proofs.Sound.{kept_by, kept_charging}
+use Rattle.book.proofs.Sound.{kept_charging}
 use Rattle.book.proofs.book.Book.under.Goals as goal
 
 pub put-requires : goal.put-requires
@@ -20,6 +20,6 @@ put-requires g c =
         found.within,
         subst (λ pair. Kept g.row.N b.closes b.pools (set xs spot.place (on_ledger (λ l. ledger_of l.general l.entries l.claims pair) spot.account)))
             (sym c.more-account.ensures.value)
-            (kept_charging g.row.N b.closes b.pools xs c.args.asset c.args.cents c.args.class spot (kept_by b) found room),
+            (kept_charging g.row.N b.closes b.pools xs c.args.asset c.args.cents c.args.class spot b.kept found room),
       ),
     )
