@@ -6,7 +6,14 @@ ghost use Rattle.book.specs.Find.{Finds};
 
 use crate::account::Account;
 use crate::class::Class;
-use crate::spot::Located;
+
+// The place of an asset, if it is listed, with what all claims and all charges of a class come to.
+#[derive(Clone, Copy)]
+pub(crate) struct Located {
+    pub place: Option<usize>,
+    pub claims: u64,
+    pub charges: u64,
+}
 
 // Where the account of an asset stands.
 pub(crate) fn find(accounts: &[Account], asset: u64) -> Option<usize>

@@ -2,7 +2,8 @@
 ghost use Rattle.std.specs.Prelude.{◌≡◌, pos, ◌≤ℤ◌};
 ghost use Rattle.book.specs.Limits.{off, off_way};
 
-pub const ASSET_MOST: u64 = 9_999;
+// Papers keep these two as well.
+pub use dispute::{ASSET_MOST, CLOSES_MOST};
 
 pub const HOLDER_MOST: u64 = 999;
 
@@ -15,13 +16,11 @@ pub const ENTRIES_MOST: i64 = 1_000_000_000;
 // The carried balance below which no term is taken, in cents.
 pub const BALANCE_LEAST: i64 = -2_000_000_000;
 
-pub const CLOSES_MOST: u64 = 360;
-
 // Whether a number is 0, or above the most.
 pub(crate) fn off(most: u64, n: u64) -> bool
     ensures value { result ≡ off most n }
 {
-    n == 0 || n > most
+    !(1..=most).contains(&n)
 }
 
 // Whether an amount is further from zero than the most.
@@ -29,5 +28,5 @@ pub(crate) fn off_way(most: i64, z: i64) -> bool
     requires { pos 0 ≤ℤ most }
     ensures value { result ≡ off_way most z }
 {
-    z < -most || z > most
+    !(-most..=most).contains(&z)
 }

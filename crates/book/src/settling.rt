@@ -69,6 +69,7 @@ pub(crate) fn settle_all<P: PaymentRule>(
     ensures accounts { accounts.new ≡ map (account_after P.PaymentRule.pays year) (dues accounts.old delivery.now availability.now) }
     ensures rows { rows.new ≡ map (row P.PaymentRule.pays year) (dues accounts.old delivery.now availability.now) ++ drop (length accounts.old) rows.old }
 {
+    // Accounts and rows are written in step, by their index: of what is written through an adapter of iter_mut nothing is known.
     for i in 0..accounts.len() {
         let account = accounts[i];
         let share = ByClass {

@@ -21,14 +21,6 @@ pub(crate) struct Spot {
     ghost small: { Small account.ledger },
 }
 
-// The place of an asset, if it is listed, with what all claims and all charges of a class come to.
-#[derive(Clone, Copy)]
-pub(crate) struct Located {
-    pub place: Option<usize>,
-    pub claims: u64,
-    pub charges: u64,
-}
-
 impl Spot {
     // Whether a sum is more than what is owed, or nothing is owed.
     pub(crate) fn owes_less(&self, cents: u64) -> bool

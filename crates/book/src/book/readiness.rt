@@ -19,7 +19,7 @@ impl<R: Seats<N>, P: PaymentRule, const N: usize> Book<R, P, N> {
         }
         let spot = self.locate(asset)?;
         let mut account = spot.account;
-        if !matches!(account.terms.mark, Mark::NotReady) {
+        if account.terms.mark != Mark::NotReady {
             return Err(Refusal::Marked);
         }
         account.terms.mark = Mark::ReadyNext;
