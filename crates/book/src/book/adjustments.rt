@@ -10,7 +10,7 @@ ghost use Rattle.book.specs.Refusal.{first, refusal};
 use crate::book::Book;
 use crate::class::Class;
 use crate::find::find_with_totals;
-use crate::limits::{ASSET_MOST, ENTRY_MOST, off};
+use crate::limits::entry_ranged;
 use crate::refusal::Refusal;
 use crate::spot::Spot;
 use payment::PaymentRule;
@@ -30,16 +30,12 @@ impl<R: Seats<N>, P: PaymentRule, const N: usize> Book<R, P, N> {
         ensures cases { refusal result ≡ first (adjustment (view self.now) class asset (pos cents) ++ (nat_lt most_cents (total + cents), 13) ∷ []) }
         ensures value { IfOk result (Found asset self.now.accounts.items) }
     {
-        if off(ASSET_MOST, asset) || off(ENTRY_MOST, cents) {
-            return Err(Refusal::OutOfRange);
-        }
+        entry_ranged(asset, cents)?;
         let spot = self.spot(place.ok_or(Refusal::NotListed)?);
         if self.wrong_month(class) {
             return Err(Refusal::WrongMonth);
         }
-        if spot.account.terms.commitment_in_force(self.year()) == 0 {
-            return Err(Refusal::NoCommitment);
-        }
+        self.committed(spot.account.terms)?;
         if total.saturating_add(cents) > MOST_CENTS {
             return Err(Refusal::PastLimit);
         }

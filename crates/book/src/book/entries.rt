@@ -8,7 +8,7 @@ ghost use Rattle.book.specs.Limits.{entries_most};
 ghost use Rattle.book.specs.Outcome.{Added, outcome};
 
 use crate::book::Book;
-use crate::limits::{ASSET_MOST, ENTRY_MOST, off};
+use crate::limits::entry_ranged;
 use crate::refusal::Refusal;
 use crate::spot::Spot;
 use payment::PaymentRule;
@@ -29,13 +29,9 @@ impl<R: Seats<N>, P: PaymentRule, const N: usize> Book<R, P, N> {
     pub fn uplift(&mut self, asset: u64, cents: u64) -> Result<(), Refusal>
         ensures step { Step N R.SharingRule.shares P.PaymentRule.pays (view self.old) (outcome (entry uplift asset (pos cents)) (λ _. entered uplift asset (pos cents)) result) (view self.new) }
     {
-        if off(ASSET_MOST, asset) || off(ENTRY_MOST, cents) {
-            return Err(Refusal::OutOfRange);
-        }
+        entry_ranged(asset, cents)?;
         let spot = self.locate(asset)?;
-        if spot.account.terms.commitment_in_force(self.year()) == 0 {
-            return Err(Refusal::NoCommitment);
-        }
+        self.committed(spot.account.terms)?;
         self.add(spot, cents as i64)
     }
 }

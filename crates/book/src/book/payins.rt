@@ -10,7 +10,7 @@ ghost use Rattle.book.specs.Outcome.{outcome};
 use crate::account::carried::settled;
 use crate::account::{Account, Terms};
 use crate::book::Book;
-use crate::limits::{ASSET_MOST, ENTRY_MOST, off};
+use crate::limits::entry_ranged;
 use crate::refusal::Refusal;
 use crate::spot::Spot;
 use payment::PaymentRule;
@@ -34,9 +34,7 @@ impl<R: Seats<N>, P: PaymentRule, const N: usize> Book<R, P, N> {
     pub fn payin(&mut self, asset: u64, cents: u64) -> Result<(), Refusal>
         ensures step { Step N R.SharingRule.shares P.PaymentRule.pays (view self.old) (outcome (entry payin asset (pos cents)) (λ _. entered payin asset (pos cents)) result) (view self.new) }
     {
-        if off(ASSET_MOST, asset) || off(ENTRY_MOST, cents) {
-            return Err(Refusal::OutOfRange);
-        }
+        entry_ranged(asset, cents)?;
         let spot = self.locate(asset)?;
         if spot.owes_less(cents) {
             return Err(Refusal::NotOwed);
