@@ -78,8 +78,3 @@ pub of_le : (class : Class) (p q : ByClass) → p.delivery ≤ q.delivery → p.
 of_le Delivery p q d a = d
 of_le Availability p q d a = a
 
--- a list each of whose places has what a function gives of the account there
-pub each_is : (f : Account → ℕ) (xs : List Account) (ns : List ℕ) → length ns ≡ length xs → ((k : ℕ) → k < length xs → get_or ns k 0 ≡ f (at k xs)) → ns ≡ map f xs
-each_is f xs ns same each =
-    ext_get_or 0 ns (map f xs) (same ∙ sym (length-map xs f))
-    (λ k h. let within : k < length xs = omega (arith, same) in each k within ∙ sym (get_or-map f xs k (opened 0 0) 0 within))

@@ -57,30 +57,19 @@ order_closed pays in_year [] d e = refl
 order_closed pays in_year (x ∷ xs) d e = ap (λ ns. x.asset ∷ ns) (order_closed pays in_year xs _ _)
 
 -- a new account is as an unlisted asset's was
-terms_push : (a b holder : ℕ) (xs : List Account) → (account a (xs ++ opened b holder ∷ [])).terms ≡ (account a xs).terms
-terms_push a b holder [] = elim (eqb b a) as (λ t. (cond t (opened b holder) (opened a 0)).terms ≡ (opened a 0).terms) [ true ↦ refl | false ↦ refl ]
-terms_push a b holder (x ∷ xs) =
-    elim (eqb x.asset a) as (λ t. (cond t x (account a (xs ++ opened b holder ∷ []))).terms ≡ (cond t x (account a xs)).terms)
-    [ true ↦ refl | false ↦ terms_push a b holder xs ]
+part_push : {A : Type 0} (part : Account → A) (a b holder : ℕ) → part (opened b holder) ≡ part (opened a 0) → (xs : List Account)
+    → part (account a (xs ++ opened b holder ∷ [])) ≡ part (account a xs)
+part_push part a b holder same [] = elim (eqb b a) as (λ t. part (cond t (opened b holder) (opened a 0)) ≡ part (opened a 0)) [ true ↦ same | false ↦ refl ]
+part_push part a b holder same (x ∷ xs) =
+    elim (eqb x.asset a) as (λ t. part (cond t x (account a (xs ++ opened b holder ∷ []))) ≡ part (cond t x (account a xs)))
+    [ true ↦ refl | false ↦ part_push part a b holder same xs ]
 
-ledger_push : (a b holder : ℕ) (xs : List Account) → (account a (xs ++ opened b holder ∷ [])).ledger ≡ (account a xs).ledger
-ledger_push a b holder [] = elim (eqb b a) as (λ t. (cond t (opened b holder) (opened a 0)).ledger ≡ (opened a 0).ledger) [ true ↦ refl | false ↦ refl ]
-ledger_push a b holder (x ∷ xs) =
-    elim (eqb x.asset a) as (λ t. (cond t x (account a (xs ++ opened b holder ∷ []))).ledger ≡ (cond t x (account a xs)).ledger)
-    [ true ↦ refl | false ↦ ledger_push a b holder xs ]
-
--- parts of a changed account
-terms_change : (a b : ℕ) (f : Account → Account) (g : Terms → Terms) → ((x : Account) → (f x).asset ≡ x.asset) → ((x : Account) → (f x).terms ≡ g x.terms) → (xs : List Account)
-    → listed b xs ≡ true → (account a (change b f xs)).terms ≡ cond (eqb b a) (g (account a xs).terms) (account a xs).terms
-terms_change a b f g keeps is xs is_listed =
-    ap (λ x. x.terms) (account_change a b f keeps xs is_listed)
-    ∙ elim (eqb b a) as (λ t. (cond t (f (account a xs)) (account a xs)).terms ≡ cond t (g (account a xs).terms) (account a xs).terms) [ true ↦ is (account a xs) | false ↦ refl ]
-
-ledger_change : (a b : ℕ) (f : Account → Account) (g : Ledger → Ledger) → ((x : Account) → (f x).asset ≡ x.asset) → ((x : Account) → (f x).ledger ≡ g x.ledger) → (xs : List Account)
-    → listed b xs ≡ true → (account a (change b f xs)).ledger ≡ cond (eqb b a) (g (account a xs).ledger) (account a xs).ledger
-ledger_change a b f g keeps is xs is_listed =
-    ap (λ x. x.ledger) (account_change a b f keeps xs is_listed)
-    ∙ elim (eqb b a) as (λ t. (cond t (f (account a xs)) (account a xs)).ledger ≡ cond t (g (account a xs).ledger) (account a xs).ledger) [ true ↦ is (account a xs) | false ↦ refl ]
+-- a part of a changed account
+part_change : {A : Type 0} (part : Account → A) (a b : ℕ) (f : Account → Account) (g : A → A) → ((x : Account) → (f x).asset ≡ x.asset) → ((x : Account) → part (f x) ≡ g (part x)) → (xs : List Account)
+    → listed b xs ≡ true → part (account a (change b f xs)) ≡ cond (eqb b a) (g (part (account a xs))) (part (account a xs))
+part_change part a b f g keeps is xs is_listed =
+    ap part (account_change a b f keeps xs is_listed)
+    ∙ elim (eqb b a) as (λ t. part (cond t (f (account a xs)) (account a xs)) ≡ cond t (g (part (account a xs))) (part (account a xs))) [ true ↦ is (account a xs) | false ↦ refl ]
 
 pub record Linked (h : History) (s : State) : Type 0 where
   pub time : s.closes ≡ closes h
@@ -123,8 +112,8 @@ linked_change h e s b f g k pools keeps is_g is_k is_listed link time order pool
   order = order_change b f keeps s.accounts ∙ link.order ∙ sym order;
   differ = differ_like s.accounts (change b f s.accounts) (order_change b f keeps s.accounts) link.differ;
   pools = pooled;
-  terms = λ a. terms_change a b f g keeps is_g s.accounts is_listed ∙ ap (λ t. cond (eqb b a) (g t) t) (link.terms a) ∙ sym (terms a);
-  ledger = λ a. ledger_change a b f k keeps is_k s.accounts is_listed ∙ ap (λ l. cond (eqb b a) (k l) l) (link.ledger a) ∙ sym (ledger a);
+  terms = λ a. part_change (λ x. x.terms) a b f g keeps is_g s.accounts is_listed ∙ ap (λ t. cond (eqb b a) (g t) t) (link.terms a) ∙ sym (terms a);
+  ledger = λ a. part_change (λ x. x.ledger) a b f k keeps is_k s.accounts is_listed ∙ ap (λ l. cond (eqb b a) (k l) l) (link.ledger a) ∙ sym (ledger a);
   ranged = ranged;
 }
 
@@ -157,8 +146,8 @@ linked_step serves rule pays h s (opening b holder) s' link (taken, after) =
       order = map_push (λ x. x.asset) s.accounts (opened b holder) ∙ ap (λ ns. ns ++ b ∷ []) link.order;
       differ = differ_push s.accounts (opened b holder) link.differ (none_hold (grounds serves s (list b holder)) taken 1);
       pools = link.pools;
-      terms = λ a. terms_push a b holder s.accounts ∙ link.terms a;
-      ledger = λ a. ledger_push a b holder s.accounts ∙ link.ledger a;
+      terms = λ a. part_push (λ x. x.terms) a b holder refl s.accounts ∙ link.terms a;
+      ledger = λ a. part_push (λ x. x.ledger) a b holder refl s.accounts ∙ link.ledger a;
       ranged = link.ranged;
     })
 linked_step serves rule pays h s (renewal b award commitment is_ready sum) s' link (taken, invoiced, after) =

@@ -2,9 +2,9 @@
 use Rattle.std.proofs.Common.{◌≡◌, ℕ, Bool, true, false, cond, List, [], ◌∷◌, ◌++◌, set, ℤ, ◌+ℤ◌, Some, None, Ok, Err, Result, sym, refl, ap, ◌∙◌, subst, arith}
 use Rattle.payment.specs.Stand.{Stand}
 use Rattle.book.specs.Accounts.{account, change}
-use Rattle.book.specs.Calls.{Step, entered, entries_past, entry, grounds, on_ledger, on_terms, paid, resolution, uplift}
+use Rattle.book.specs.Calls.{Kind, Step, after_entry, changed, entered, entries_past, entry, grounds, on_ledger, on_terms, paid}
 use Rattle.book.specs.Class.{plus}
-use Rattle.book.specs.Entries.{credited, settled}
+use Rattle.book.specs.Entries.{adding, credited, settled}
 use Rattle.book.specs.Find.{Found}
 use Rattle.book.specs.Limits.{entries_most, off_way}
 use Rattle.book.specs.Outcome.{Added, outcome}
@@ -27,22 +27,15 @@ first_last ((true, m) ∷ early) test n none = absurd (some_none none)
 first_last ((false, m) ∷ early) test n none = first_last early test n none
 
 -- a sum that goes to the month's entries, by whichever call
-module _ (serves : ℕ) (rule : ℕ → List ℕ → List ℕ) (pays : Stand → ℤ → ℤ) (s s' : State) (asset : ℕ) (cents : ℤ) where
-  pub uplift_step : (r : Result (Unit {0}) Refusal) (early : List (Bool × ℕ)) → grounds serves s (entry uplift asset cents) ≡ early ++ (entries_past s asset cents, 13) ∷ []
-      → first early ≡ None → Added s asset cents r s'
-      → Step serves rule pays s (outcome (entry uplift asset cents) (λ _. entered uplift asset cents) r) s'
-  uplift_step (Ok a) early same none (within, after) =
-      (ap first same ∙ first_last early (entries_past s asset cents) 13 none ∙ ap (λ t. cond t (Some 13) None) within, after)
-  uplift_step (Err why) early same none (past, limit, after) =
-      (ap first same ∙ first_last early (entries_past s asset cents) 13 none ∙ ap (λ t. cond t (Some 13) None) past ∙ ap (λ w. Some (number w)) (sym limit), after)
-
-  pub resolution_step : (r : Result (Unit {0}) Refusal) (early : List (Bool × ℕ)) → grounds serves s (entry resolution asset cents) ≡ early ++ (entries_past s asset cents, 13) ∷ []
-      → first early ≡ None → Added s asset cents r s'
-      → Step serves rule pays s (outcome (entry resolution asset cents) (λ _. entered resolution asset cents) r) s'
-  resolution_step (Ok a) early same none (within, after) =
-      (ap first same ∙ first_last early (entries_past s asset cents) 13 none ∙ ap (λ t. cond t (Some 13) None) within, after)
-  resolution_step (Err why) early same none (past, limit, after) =
-      (ap first same ∙ first_last early (entries_past s asset cents) 13 none ∙ ap (λ t. cond t (Some 13) None) past ∙ ap (λ w. Some (number w)) (sym limit), after)
+pub entries_step : (serves : ℕ) (rule : ℕ → List ℕ → List ℕ) (pays : Stand → ℤ → ℤ) (s s' : State) (kind : Kind) (asset : ℕ) (cents : ℤ) (r : Result (Unit {0}) Refusal) (early : List (Bool × ℕ))
+    → after_entry kind asset cents s ≡ changed asset (on_ledger (adding cents)) s
+    → grounds serves s (entry kind asset cents) ≡ early ++ (entries_past s asset cents, 13) ∷ []
+    → first early ≡ None → Added s asset cents r s'
+    → Step serves rule pays s (outcome (entry kind asset cents) (λ _. entered kind asset cents) r) s'
+entries_step serves rule pays s s' kind asset cents (Ok a) early adds same none (within, after) =
+    (ap first same ∙ first_last early (entries_past s asset cents) 13 none ∙ ap (λ t. cond t (Some 13) None) within, after ∙ sym adds)
+entries_step serves rule pays s s' kind asset cents (Err why) early adds same none (past, limit, after) =
+    (ap first same ∙ first_last early (entries_past s asset cents) 13 none ∙ ap (λ t. cond t (Some 13) None) past ∙ ap (λ w. Some (number w)) (sym limit), after)
 
 -- the month's entries would pass their limit
 pub added_past : (s : State) (asset : ℕ) (cents : ℤ) (spot : Spot) (r : Result (Unit {0}) Refusal) → Found asset s.accounts spot

@@ -46,11 +46,6 @@ above_owed (negsuc n) e = refl
 pub part_within : (owed fall base : ℕ) → fall ≤ base → owed * fall / base ≤ owed
 part_within owed fall base h = div-le_of_le-mul base (omega (arith, mul-le-mul_left owed h, mul_comm owed base))
 
-pub owed_from : (l : Ledger) (cents : ℕ) → owes_less l cents ≡ false → cents ≤ above_zero (neg_ℤ (balance l))
-owed_from l cents e =
-    let parts = or_parts (not (lt_z (balance l) (pos 0))) (ltb (nat_abs (balance l)) cents) e in
-    omega (arith, above_owed (balance l) (not-false (lt_z (balance l) (pos 0)) parts.0), ltb-false (nat_abs (balance l)) cents parts.1)
-
 pub above_most : (z : ℤ) → balance_least ≤ℤ z → above_zero (neg_ℤ z) ≤ 2000000000
 above_most (pos n) h = omega (arith, above_none n)
   where

@@ -1,12 +1,12 @@
-use Rattle.std.proofs.Common.{◌≡◌, ◌≤◌, ◌||◌, [], ◌∷◌, pos, None, vec_items, refl, subst, arith, w64, rules}
+use Rattle.std.proofs.Common.{◌≡◌, ℕ, Bool, List, ◌≤◌, ◌||◌, [], ◌∷◌, pos, None, vec_items, refl, subst, arith, w64, rules}
 use Rattle.std.proofs.lemmas.Int.{ints, to_z_pos}
 use Rattle.book.specs.Book.{view}
-use Rattle.book.specs.Calls.{idle, unlisted}
+use Rattle.book.specs.Calls.{idle, unlisted, uplift as uplifting}
 use Rattle.book.specs.Limits.{asset_most, entry_most, off}
 use Rattle.book.specs.Outcome.{Added}
 use Rattle.book.specs.Refusal.{first}
 use Rattle.book.proofs.Places.{own}
-use Rattle.book.proofs.Steps.{uplift_step}
+use Rattle.book.proofs.Steps.{entries_step}
 use Rattle.book.proofs.book.Book.uplift.Goals as goal
 
 pub add-requires : goal.add-requires
@@ -18,9 +18,12 @@ pub returns : goal.returns
 returns g c =
     let s = view c.args.self.now in
     let most : c.args.cents ≤ 1000000000 = search rules in
-    let none : first ((off asset_most c.args.asset || off entry_most c.args.cents, 4) ∷ (unlisted s c.args.asset, 8) ∷ (idle s c.args.asset, 11) ∷ []) ≡ None = search rules in
-    let spot = c.in_ok-spot.spot in
-    let added : Added s c.args.asset (pos c.args.cents) c.add.result (view c.add.new.self) =
-    subst (λ n. Added s n (pos c.args.cents) c.add.result (view c.add.new.self)) c.in_ok-spot.ensures.cases.its
-    (subst (λ z. Added s spot.account.asset z c.add.result (view c.add.new.self)) (to_z_pos w64 c.args.cents (omega (arith, most))) c.add.ensures.cases) in
-    record { step = uplift_step g.row.N g.R.SharingRule.shares g.P.PaymentRule.pays s (view c.add.new.self) c.args.asset (pos c.args.cents) c.add.result ((off asset_most c.args.asset || off entry_most c.args.cents, 4) ∷ (unlisted s c.args.asset, 8) ∷ (idle s c.args.asset, 11) ∷ []) refl none added }
+    let early : List (Bool × ℕ) = (off asset_most c.args.asset || off entry_most c.args.cents, 4) ∷ (unlisted s c.args.asset, 8) ∷ (idle s c.args.asset, 11) ∷ [] in
+    let none : first early ≡ None = search rules in
+    record {
+      step =
+          entries_step g.row.N g.R.SharingRule.shares g.P.PaymentRule.pays s (view c.add.new.self) uplifting c.args.asset (pos c.args.cents) c.add.result
+          early refl refl none
+          (subst (λ n. Added s n (pos c.args.cents) c.add.result (view c.add.new.self)) c.in_ok-spot.ensures.cases.its
+          (subst (λ z. Added s c.in_ok-spot.spot.account.asset z c.add.result (view c.add.new.self)) (to_z_pos w64 c.args.cents (omega (arith, most))) c.add.ensures.cases));
+    }
