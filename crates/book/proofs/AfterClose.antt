@@ -33,7 +33,7 @@ taken_within award l =
     (λ _. (omega arith, omega arith)) (λ _. (omega arith, omega arith))
 
 -- an award in force is an award, or 0
-pub in_force_within : (in_year : ℕ) (t : Terms) → RangedTerms t → EitherWay award_most (award_in_force in_year t)
+in_force_within : (in_year : ℕ) (t : Terms) → RangedTerms t → EitherWay award_most (award_in_force in_year t)
 in_force_within in_year t ranged =
     cond_both _ t.award (pos 0) (EitherWay award_most) (λ _. ranged.0) (λ _. (omega (arith, ints), omega (arith, ints)))
 
@@ -57,7 +57,7 @@ sum_after g f falls (x ∷ xs) d a =
 module _ (places closes : ℕ) (pools : ByClass) (xs : List Account) (kept : Kept places closes pools xs) (pays : Stand → ℤ → ℤ) (limits : List Limit)
     (owes : (s : Stand) (t : ℤ) → InRange s → Owed limits s t (pays s t)) (in_year : ℕ) (d a : List ℕ)
     (within_d : (i : ℕ) → get_or d i 0 ≤ claim Delivery (at i xs)) (within_a : (i : ℕ) → get_or a i 0 ≤ claim Availability (at i xs)) where
-  pub closable : closes ≤ closes_most → (i : ℕ) → i < length xs → Closable (due_at i xs d a).account (due_at i xs d a).share
+  closable : closes ≤ closes_most → (i : ℕ) → i < length xs → Closable (due_at i xs d a).account (due_at i xs d a).share
   closable in_time i h = record {
     tight = tight_each places closes pools xs kept in_time i h;
     ranged = kept.terms i h;
@@ -88,7 +88,7 @@ module _ (places closes : ℕ) (pools : ByClass) (xs : List Account) (kept : Kep
       let within : i < length xs = omega (arith, length-map (dues xs d a) (account_after pays in_year), length-dues xs d a) in
       subst P (sym (at_after (account_after pays in_year) xs d a i within)) (all i within)
 
-  pub kept_closed : Kept places (closes + 1) none (map (account_after pays in_year) (dues xs d a))
+  kept_closed : Kept places (closes + 1) none (map (account_after pays in_year) (dues xs d a))
   kept_closed =
       let f = account_after pays in_year in
       let as_many : length (map f (dues xs d a)) ≡ length xs = length-map (dues xs d a) f ∙ length-dues xs d a in
@@ -144,8 +144,8 @@ module _ (places : ℕ) (s : State) (kept : Kept places s.closes s.pools s.accou
       (shares_within rule within (pooled s Delivery) Delivery s.accounts) (shares_within rule within (pooled s Availability) Availability s.accounts)
 
 -- the same work on the same lists
-pub same_work : {X : Type 0} (f : ℕ → Due → X) (s : State) (rule : ℕ → List ℕ → List ℕ) (y : ℕ) (xs : List Account) (d a : List ℕ) → y ≡ year s → xs ≡ s.accounts
+pub same_work : {X : Type 0} {y : ℕ} {xs : List Account} {d a : List ℕ} (f : ℕ → Due → X) (s : State) (rule : ℕ → List ℕ → List ℕ) → y ≡ year s → xs ≡ s.accounts
     → d ≡ shares rule s Delivery → a ≡ shares rule s Availability → map (f y) (dues xs d a) ≡ map (f (year s)) (all_dues rule s)
-same_work f s rule y xs d a same-y same-xs same-d same-a =
+same_work {y = y} {xs = xs} {d = d} {a = a} f s rule same-y same-xs same-d same-a =
     ap (λ z. map (f z) (dues xs d a)) same-y ∙ ap (λ ys. map (f (year s)) (dues ys d a)) same-xs
     ∙ ap (λ e. map (f (year s)) (dues s.accounts e a)) same-d ∙ ap (λ e. map (f (year s)) (dues s.accounts (shares rule s Delivery) e)) same-a

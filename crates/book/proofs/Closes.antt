@@ -77,4 +77,3 @@ blank_row = record { asset = 0; award = pos 0; taken = none; share = none; payme
 pub of_le : (class : Class) (p q : ByClass) → p.delivery ≤ q.delivery → p.availability ≤ q.availability → of class p ≤ of class q
 of_le Delivery p q d a = d
 of_le Availability p q d a = a
-

@@ -34,7 +34,7 @@ none_hold ((false, n) ∷ gs) e zero = refl
 none_hold ((false, n) ∷ gs) e (suc i) = none_hold gs e i
 
 -- assets in their places
-pub differ_like : (xs ys : List Account) → map (λ x. x.asset) ys ≡ map (λ x. x.asset) xs → Differ xs → Differ ys
+differ_like : (xs ys : List Account) → map (λ x. x.asset) ys ≡ map (λ x. x.asset) xs → Differ xs → Differ ys
 differ_like xs ys same differ i j less h e =
     let as_many : length ys ≡ length xs = sym (length-map ys (λ x. x.asset)) ∙ ap length same ∙ length-map xs (λ x. x.asset) in
     differ i j less (omega (arith, as_many)) (sym (place i (omega arith)) ∙ e ∙ place j (omega arith))
@@ -44,14 +44,14 @@ differ_like xs ys same differ i j less h e =
         let as_many : length ys ≡ length xs = sym (length-map ys (λ x. x.asset)) ∙ ap length same ∙ length-map xs (λ x. x.asset) in
         sym (get_or-map (λ x. x.asset) ys k (opened 0 0) 0 (omega arith)) ∙ ap (λ ns. get_or ns k 0) same ∙ get_or-map (λ x. x.asset) xs k (opened 0 0) 0 (omega (arith, as_many))
 
-pub order_change : (b : ℕ) (f : Account → Account) → ((x : Account) → (f x).asset ≡ x.asset) → (xs : List Account)
+order_change : (b : ℕ) (f : Account → Account) → ((x : Account) → (f x).asset ≡ x.asset) → (xs : List Account)
     → map (λ x. x.asset) (change b f xs) ≡ map (λ x. x.asset) xs
 order_change b f keeps [] = refl
 order_change b f keeps (x ∷ xs) =
     elim (eqb x.asset b) as (λ t. map (λ x. x.asset) (cond t (f x ∷ xs) (x ∷ change b f xs)) ≡ x.asset ∷ map (λ x. x.asset) xs)
     [ true ↦ ap (λ n. n ∷ map (λ x. x.asset) xs) (keeps x) | false ↦ ap (λ ns. x.asset ∷ ns) (order_change b f keeps xs) ]
 
-pub order_closed : (pays : Stand → ℤ → ℤ) (in_year : ℕ) (xs : List Account) (d e : List ℕ)
+order_closed : (pays : Stand → ℤ → ℤ) (in_year : ℕ) (xs : List Account) (d e : List ℕ)
     → map (λ x. x.asset) (map (account_after pays in_year) (dues xs d e)) ≡ map (λ x. x.asset) xs
 order_closed pays in_year [] d e = refl
 order_closed pays in_year (x ∷ xs) d e = ap (λ ns. x.asset ∷ ns) (order_closed pays in_year xs _ _)

@@ -43,7 +43,7 @@ found asset (x ∷ xs) (suc i) within before its =
       changes = λ f. rw other (ap (λ ys. x ∷ ys) (below.changes f));
     }
 
-pub not_found : (asset : ℕ) (xs : List Account) → Before asset (length xs) xs → listed asset xs ≡ false
+not_found : (asset : ℕ) (xs : List Account) → Before asset (length xs) xs → listed asset xs ≡ false
 not_found asset [] before = refl
 not_found asset (x ∷ xs) before =
     let other : eqb x.asset asset ≡ false = first_differs asset x xs (length xs) before in

@@ -26,14 +26,14 @@ use Rattle.book.specs.declared.class.Class.{Class}
 use Rattle.book.specs.declared.class.Class.TheVariants.{Availability, Delivery}
 
 -- P holds of every account of a list with one more
-pub each_push : (P : Account → Type 0) (xs : List Account) (x : Account) → Each P xs → P x → Each P (xs ++ x ∷ [])
+each_push : (P : Account → Type 0) (xs : List Account) (x : Account) → Each P xs → P x → Each P (xs ++ x ∷ [])
 each_push P xs x all last i h =
     ⊎_elim
     (λ l. subst P (sym (get_or_append_left xs (x ∷ []) (opened 0 0) i l)) (all i l))
     (λ l. let e : length xs ≡ i = omega (arith, length_push xs x) in subst P (sym (get_or_push xs x (opened 0 0) i e)) last)
     (cases_lt i (length xs))
 
-pub each_set : (P : Account → Type 0) (xs : List Account) (k : ℕ) (y : Account) → k < length xs → Each P xs → P y → Each P (set xs k y)
+each_set : (P : Account → Type 0) (xs : List Account) (k : ℕ) (y : Account) → k < length xs → Each P xs → P y → Each P (set xs k y)
 each_set P xs k y within all new i h =
     ⊎_elim
     (λ e. subst (λ j. P (at j (set xs k y))) (sym e) (subst P (sym (get_or-set_same xs k y (opened 0 0) within)) new))
@@ -65,7 +65,7 @@ same_asset xs k y within its i =
     (λ ne. ap (λ a. a.asset) (get_or-set_other xs k i y (opened 0 0) ne))
     (cases_eq i k)
 
-pub differ_set : (xs : List Account) (k : ℕ) (y : Account) → k < length xs → (at k xs).asset ≡ y.asset → Differ xs → Differ (set xs k y)
+differ_set : (xs : List Account) (k : ℕ) (y : Account) → k < length xs → (at k xs).asset ≡ y.asset → Differ xs → Differ (set xs k y)
 differ_set xs k y within its differ i j less h same =
     differ i j less (omega (arith, length-set xs k y)) (sym (same_asset xs k y within its i) ∙ same ∙ same_asset xs k y within its j)
 
@@ -99,7 +99,7 @@ pub record At (closes : ℕ) (x : Account) : Type 0 where
   pub terms : RangedTerms x.terms
   pub ledger : RangedLedger closes x.ledger
 
-pub kept_at : (places closes : ℕ) (pools : ByClass) (xs : List Account) (asset : ℕ) (spot : Spot) → Kept places closes pools xs → Found asset xs spot
+kept_at : (places closes : ℕ) (pools : ByClass) (xs : List Account) (asset : ℕ) (spot : Spot) → Kept places closes pools xs → Found asset xs spot
     → At closes spot.account
 kept_at places closes pools xs asset spot kept found = record {
   name = subst RangedName found.there (kept.names spot.place found.within);
@@ -108,7 +108,7 @@ kept_at places closes pools xs asset spot kept found = record {
 }
 
 -- a change of one account that keeps its names, with other pools
-pub kept_set : (places closes : ℕ) (pools pools' : ByClass) (xs : List Account) (asset : ℕ) (spot : Spot) (y : Account) → Kept places closes pools xs
+kept_set : (places closes : ℕ) (pools pools' : ByClass) (xs : List Account) (asset : ℕ) (spot : Spot) (y : Account) → Kept places closes pools xs
     → Found asset xs spot → spot.account.asset ≡ y.asset → spot.account.holder ≡ y.holder
     → RangedTerms y.terms → RangedLedger closes y.ledger
     → ((class : Class) → claimed class xs + claim class y ≤ most_cents + claim class spot.account)

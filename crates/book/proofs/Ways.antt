@@ -1,13 +1,13 @@
 -- What tests of ranges tell. Assumes nothing.
-use Rattle.std.proofs.Common.{◌≡◌, ℕ, zero, suc, ◌+◌, ◌-◌, ◌*◌, ◌/◌, ◌≤◌, min, Bool, true, false, cond, not, ltb, ◌⊎◌, ℤ, pos, negsuc, ◌+ℤ◌, ◌-ℤ◌, neg_ℤ, nat_abs, ◌≤ℤ◌, refl, inl, inr, ⊎_elim, mul_comm, mul-le-mul_left, arith}
+use Rattle.std.proofs.Common.{◌≡◌, ℕ, zero, suc, ◌+◌, ◌-◌, ◌*◌, ◌/◌, ◌≤◌, min, Bool, true, false, cond, ltb, ◌⊎◌, ℤ, pos, negsuc, ◌+ℤ◌, ◌-ℤ◌, neg_ℤ, nat_abs, ◌≤ℤ◌, refl, inl, inr, ⊎_elim, mul_comm, mul-le-mul_left, arith}
 use native.Mathlib.Nat.{div-le_of_le-mul}
 use lib.Signed.{lt_z}
 use Rattle.std.specs.Int.{int_max}
 use Rattle.std.proofs.lemmas.Int.{clamps, ints}
-use Rattle.std.proofs.lemmas.Bool.{both_ways, cond_both, le-ltb, ltb-false, not-false, or_parts}
+use Rattle.std.proofs.lemmas.Bool.{both_ways, cond_both, le-ltb, or_parts}
 use Rattle.payment.specs.Rule.{Between}
 use Rattle.payment.specs.Stand.{award_most, cap_base_most, commitment_most}
-use Rattle.book.specs.Account.{EitherWay, RangedTerms, balance, owes_less}
+use Rattle.book.specs.Account.{EitherWay, RangedTerms}
 use Rattle.book.specs.Class.{both}
 use Rattle.book.specs.Close.{above_zero, total_of}
 use Rattle.book.specs.Entries.{renewed}
@@ -23,7 +23,7 @@ not_off most z within =
     let high : lt_z most z ≡ false = (or_parts (lt_z z (neg_ℤ most)) (lt_z most z) within).1 in
     (grind (arith, ints), grind (arith, ints))
 
-pub above_le : (n : ℕ) (z : ℤ) → n ≤ above_zero z → (n ≡ 0) ⊎ (pos n ≤ℤ z)
+above_le : (n : ℕ) (z : ℤ) → n ≤ above_zero z → (n ≡ 0) ⊎ (pos n ≤ℤ z)
 above_le n (pos m) h = inr (omega (arith, ints))
 above_le n (negsuc m) h = inl (omega arith)
 

@@ -31,10 +31,9 @@ invariant_of-self-2 g c =
     let s = view b in
     let rule = g.R.SharingRule.shares in
     let pays = g.P.PaymentRule.pays in
-    let written = same_work (account_after pays) s rule c.year-year.result c.as_mut_slice.result.now c.share_class.new.shares c.share_class-2.new.shares
-    c.year-year.ensures.value c.as_mut_slice.ensures.value c.share_class.ensures.after c.share_class-2.ensures.after in
     let same : vec_items (with_items b.accounts c.settle_all.new.accounts) ≡ (closed_state rule pays s).accounts =
-    with_items_is b.accounts c.settle_all.new.accounts (search rules) ∙ c.settle_all.ensures.accounts ∙ written in
+    with_items_is b.accounts c.settle_all.new.accounts (search rules) ∙ c.settle_all.ensures.accounts
+    ∙ same_work (account_after pays) s rule c.year-year.ensures.value c.as_mut_slice.ensures.value c.share_class.ensures.after c.share_class-2.ensures.after in
     record {
       room = b.room;
       kept = subst (Kept g.row.N (b.closes + 1) none) (sym same) (kept_after g.row.N s b.kept rule g.met.R.SharingRule.within pays g.P.PaymentRule.limits g.met.P.PaymentRule.owes);
@@ -47,12 +46,9 @@ returns g c =
     let s = view b in
     let rule = g.R.SharingRule.shares in
     let pays = g.P.PaymentRule.pays in
-    let written = same_work (account_after pays) s rule c.year-year.result c.as_mut_slice.result.now c.share_class.new.shares c.share_class-2.new.shares
-    c.year-year.ensures.value c.as_mut_slice.ensures.value c.share_class.ensures.after c.share_class-2.ensures.after in
-    let rowed = same_work (row pays) s rule c.year-year.result c.as_mut_slice.result.now c.share_class.new.shares c.share_class-2.new.shares
-    c.year-year.ensures.value c.as_mut_slice.ensures.value c.share_class.ensures.after c.share_class-2.ensures.after in
     let same : vec_items (with_items b.accounts c.settle_all.new.accounts) ≡ (closed_state rule pays s).accounts =
-    with_items_is b.accounts c.settle_all.new.accounts (search rules) ∙ c.settle_all.ensures.accounts ∙ written in
+    with_items_is b.accounts c.settle_all.new.accounts (search rules) ∙ c.settle_all.ensures.accounts
+    ∙ same_work (account_after pays) s rule c.year-year.ensures.value c.as_mut_slice.ensures.value c.share_class.ensures.after c.share_class-2.ensures.after in
     record {
       value = (
         search rules,
@@ -60,6 +56,7 @@ returns g c =
       );
       after = ap (λ xs. state xs none (b.closes + 1)) same;
       rows =
-          c.settle_all.ensures.rows ∙ ap (λ front. front ++ drop (length c.as_mut_slice.result.now) c.args.rows.now) rowed
+          c.settle_all.ensures.rows
+          ∙ ap (λ front. front ++ drop (length c.as_mut_slice.result.now) c.args.rows.now) (same_work (row pays) s rule c.year-year.ensures.value c.as_mut_slice.ensures.value c.share_class.ensures.after c.share_class-2.ensures.after)
           ∙ ap (λ xs. map (row pays (year s)) (all_dues rule s) ++ drop (length xs) c.args.rows.now) c.as_mut_slice.ensures.value;
     }

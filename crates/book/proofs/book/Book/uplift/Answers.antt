@@ -1,4 +1,4 @@
-use Rattle.std.proofs.Common.{◌≡◌, ℕ, Bool, List, ◌≤◌, ◌||◌, [], ◌∷◌, pos, None, vec_items, refl, subst, arith, w64, rules}
+use Rattle.std.proofs.Common.{◌≡◌, ℕ, ◌≤◌, Bool, ◌||◌, List, [], ◌∷◌, pos, None, vec_items, refl, subst, arith, w64, rules}
 use Rattle.std.proofs.lemmas.Int.{ints, to_z_pos}
 use Rattle.book.specs.Book.{view}
 use Rattle.book.specs.Calls.{idle, unlisted, uplift as uplifting}
