@@ -1,4 +1,4 @@
-use Rattle.std.proofs.Common.{◌≡◌, ◌+◌, ◌++◌, map, length, drop, vec_items, sym, ap, ◌∙◌, subst, arith, rules}
+use Rattle.std.proofs.Common.{◌≡◌, ◌+◌, ◌++◌, map, length, drop, vec_items, sym, ap, ◌∙◌, subst, rules}
 use Rattle.std.specs.Vec.{with_items}
 use Rattle.std.proofs.lemmas.List.{with_items_is}
 use Rattle.book.specs.Book.{view}
@@ -25,8 +25,8 @@ settle_all-requires g c =
       ),
     )
 
-pub invariant_of-self-2 : goal.invariant_of-self-2
-invariant_of-self-2 g c =
+pub invariant_of-self-2-clause-kept : goal.invariant_of-self-2-clause-kept
+invariant_of-self-2-clause-kept g c =
     let b = c.args.self.now in
     let s = view b in
     let rule = g.R.SharingRule.shares in
@@ -34,11 +34,7 @@ invariant_of-self-2 g c =
     let same : vec_items (with_items b.accounts c.settle_all.new.accounts) ≡ (closed_state rule pays s).accounts =
     with_items_is b.accounts c.settle_all.new.accounts (search rules) ∙ c.settle_all.ensures.accounts
     ∙ same_work (account_after pays) s rule c.year-year.ensures.value c.as_mut_slice.ensures.value c.share_class.ensures.after c.share_class-2.ensures.after in
-    record {
-      room = b.room;
-      kept = subst (Kept g.row.N (b.closes + 1) none) (sym same) (kept_after g.row.N s b.kept rule g.met.R.SharingRule.within pays g.P.PaymentRule.limits g.met.P.PaymentRule.owes);
-      in_time = omega (arith, c.requires.0);
-    }
+    subst (Kept g.row.N (b.closes + 1) none) (sym same) (kept_after g.row.N s b.kept rule g.met.R.SharingRule.within pays g.P.PaymentRule.limits g.met.P.PaymentRule.owes)
 
 pub returns : goal.returns
 returns g c =

@@ -3,14 +3,9 @@ use Rattle.book.specs.Kept.{Kept}
 use Rattle.book.proofs.Sound.{kept_push}
 use Rattle.book.proofs.book.Book.list.Goals as goal
 
-pub invariant_of-self : goal.invariant_of-self
-invariant_of-self g c =
+pub invariant_of-self-clause-kept : goal.invariant_of-self-clause-kept
+invariant_of-self-clause-kept g c =
     let b = c.args.self.now in
     let xs = vec_items b.accounts in
-    record {
-      room = search rules;
-      kept =
-          subst (Kept g.row.N b.closes b.pools) (sym (c.push_reserved.ensures.items ∙ ap (λ x. xs ++ x ∷ []) c.opened.ensures.value))
-          (kept_push g.row.N b.closes b.pools xs c.args.asset c.args.holder b.kept (search rules) (search rules) (search rules));
-      in_time = b.in_time;
-    }
+    subst (Kept g.row.N b.closes b.pools) (sym (c.push_reserved.ensures.items ∙ ap (λ x. xs ++ x ∷ []) c.opened.ensures.value))
+    (kept_push g.row.N b.closes b.pools xs c.args.asset c.args.holder b.kept (search rules) (search rules) (search rules))
