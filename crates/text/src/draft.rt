@@ -39,7 +39,7 @@ pub(crate) struct Draft {
 
 impl Draft {
     // Before a field was read.
-    pub fn new() -> Draft
+    pub(crate) fn new() -> Draft
         ensures value { result ≡ fresh }
     {
         Draft {
@@ -101,7 +101,7 @@ impl Draft {
     }
 
     // The form of a word, with these values.
-    pub fn form(self, verb: Verb) -> Form
+    pub(crate) fn form(self, verb: Verb) -> Form
         ensures value { result ≡ formed verb self }
     {
         match verb {

@@ -66,7 +66,7 @@ impl<'a> Cursor<'a> {
     ghost use Rattle.text.specs.Next.{Sound};
 
     // At the front of a line, if it is not too long.
-    pub fn new(line: &'a [u8]) -> Result<Cursor<'a>, TextFault>
+    pub(crate) fn new(line: &'a [u8]) -> Result<Cursor<'a>, TextFault>
         ensures { Opened line.now result }
     {
         if line.len() > LINE_MOST {
@@ -76,14 +76,14 @@ impl<'a> Cursor<'a> {
     }
 
     // The byte past the line, counted from 1.
-    pub fn end(&self) -> usize
+    pub(crate) fn end(&self) -> usize
         ensures { result ≡ end_of self.now }
     {
         self.at + self.rest.len() + 1
     }
 
     // The next token, or nothing where only blanks are left.
-    pub fn next_token(&mut self) -> Result<Option<Next<'a>>, TextFault>
+    pub(crate) fn next_token(&mut self) -> Result<Option<Next<'a>>, TextFault>
         ensures { Given self.old result self.new }
     {
         let blanks = span(self.rest, Sort::Blank);
@@ -104,7 +104,7 @@ impl<'a> Cursor<'a> {
     }
 
     // Whether all that is left is tokens.
-    pub fn all_tokens(mut self) -> Result<(), TextFault>
+    pub(crate) fn all_tokens(mut self) -> Result<(), TextFault>
         ensures { Sound (left self.entry) result }
     {
         while self.next_token()?.is_some() {}

@@ -59,7 +59,7 @@ impl<'a> Numeral<'a> {
     ghost use Rattle.std.specs.Prelude.{false, MatchOption};
     ghost use Rattle.text.specs.Tokens.{value};
 
-    pub fn new(run: &'a [u8]) -> Option<Numeral<'a>>
+    pub(crate) fn new(run: &'a [u8]) -> Option<Numeral<'a>>
         ensures { MatchOption result (numeral run.now ≡ false) (λ n. n.run.now ≡ run.now) }
     {
         if is_numeral(run) {
@@ -70,7 +70,7 @@ impl<'a> Numeral<'a> {
     }
 
     // What it says.
-    pub fn value(self) -> i64
+    pub(crate) fn value(self) -> i64
         ensures { result ≡ value self.entry.run.now }
     {
         match self.run {

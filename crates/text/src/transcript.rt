@@ -21,12 +21,12 @@ pub(crate) const ROW_PLACES: usize = 64;
 #[derive(Drop)]
 pub(crate) struct Transcript {
     pub bytes: Vec<u8>,
-    pub text: Text,
+    text: Text,
 }
 
 impl Transcript {
     // An empty one, with room for so many bytes.
-    pub fn with_room(heap: Global, room: usize) -> Result<Transcript, AllocError>
+    pub(crate) fn with_room(heap: Global, room: usize) -> Result<Transcript, AllocError>
         ensures bytes { IfOk result (λ made. made.bytes.items ≡ []) }
         ensures room { IfOk result (λ made. vec_capacity made.bytes ≡ room) }
     {
@@ -37,7 +37,7 @@ impl Transcript {
     }
 
     // Puts a line behind what is printed.
-    pub fn print<L: Line>(&mut self, line: &L)
+    pub(crate) fn print<L: Line>(&mut self, line: &L)
         requires { vec_len self.old.bytes + page_least ≤ vec_capacity self.old.bytes }
         ensures added { Added 1 (L.bytes line.now) self.old.bytes self.new.bytes }
     {
@@ -57,7 +57,7 @@ impl Transcript {
     }
 
     // What comes of a line.
-    pub fn print_answer(
+    pub(crate) fn print_answer(
         &mut self,
         line: usize,
         answer: Result<Answer, Fault>,
