@@ -1,4 +1,5 @@
 -- What the parts of the reader find, from a cursor over a line to the cursor behind what was read.
+--   Wanted           a token where the line may not end: the token, or the fault
 --   Took, Missed, Expected   one item: its token, or the fault
 --   Read, FieldRead  a field: its value, or the fault
 --   FieldsRead       some fields: what is gathered of them, or the fault
@@ -7,15 +8,16 @@
 --   read_behind      what is read behind a form's word
 --   read_from        what is read of all that is left
 -- Assumes nothing.
-use Rattle.std.specs.Prelude.{◌≡◌, ℕ, true, cond, List, [], ◌∷◌, drop, Some, None, Ok, Err, Option, Result, slice_index_or}
-use Rattle.text.specs.Cursor.{Passed, end_of, left}
+use Rattle.std.specs.Prelude.{◌≡◌, ◌⊎◌, ℕ, true, cond, List, [], ◌∷◌, drop, Some, None, Ok, Err, Option, Result, slice_index_or}
+use Rattle.text.specs.Cursor.{Passed, Strays, end_of, left}
 use Rattle.text.specs.Forms.{fits, is_opening, verb_of, wanted, wanted_of}
 use Rattle.text.specs.Next.{symbol_of}
 use Rattle.text.specs.Reading.{against, by_shape, fault_at, form_in, fresh, gather}
 use Rattle.text.specs.Tokens.{Placed, nothing, placed}
 use Rattle.text.specs.declared.draft.Draft.{Draft}
 use Rattle.text.specs.declared.fault.FormFault.{FormFault}
-use Rattle.text.specs.declared.fault.FormFault.TheVariants.{NoForm}
+use Rattle.text.specs.declared.fault.FormFault.TheVariants.{NoForm, Text}
+use Rattle.text.specs.declared.fault.TextFault.{TextFault}
 use Rattle.text.specs.declared.form.Field.{Field}
 use Rattle.text.specs.declared.form.Form.{Form}
 use Rattle.text.specs.declared.form.Item.{Item}
@@ -23,6 +25,11 @@ use Rattle.text.specs.declared.form.Item.TheVariants.{Close as Closed, Name, Ope
 use Rattle.text.specs.declared.form.Verb.{Verb}
 use Rattle.text.specs.declared.lexer.Cursor.{Cursor}
 use Rattle.text.specs.declared.token.Next.{Next}
+
+abbrev pub Wanted : Cursor → Result Next FormFault → Cursor → Type 0
+Wanted before (Ok next) after = Passed before next after
+Wanted before (Err fault) after =
+    ((left before ≡ []) × (fault ≡ NoForm (end_of before))) ⊎ ((stray : TextFault) × Strays (left before) stray × (fault ≡ Text stray))
 
 pub record Took (before : Cursor) (item : Item) (next : Next) (after : Cursor) : Type 0 where
   pub passed : Passed before next after

@@ -23,17 +23,24 @@ fn verb_in(token: Token) -> Option<Verb>
 }
 
 impl<'a> Cursor<'a> {
-    ghost use Rattle.text.specs.Reader.{Expected, FieldRead, FieldsRead, Finished, HeadRead};
+    ghost use Rattle.text.specs.Reader.{Expected, FieldRead, FieldsRead, Finished, HeadRead, Wanted};
+
+    // The next token, where the line may not end.
+    fn wanted(&mut self) -> Result<Next<'a>, FormFault>
+        ensures { Wanted self.old result self.new }
+    {
+        self.next_token()?.ok_or(FormFault::NoForm(self.end()))
+    }
 
     // The next token, where an item is wanted.
     fn accept(&mut self, item: Item) -> Result<Next<'a>, FormFault>
         ensures { Expected self.old item result self.new }
     {
-        match self.next_token()? {
-            Some(next) if suits(item, next.token) => Ok(next),
-            Some(next) => Err(FormFault::NoForm(next.place + 1)),
-            None => Err(FormFault::NoForm(self.end())),
+        let next = self.wanted()?;
+        if !suits(item, next.token) {
+            return Err(FormFault::NoForm(next.place + 1));
         }
+        Ok(next)
     }
 
     // The value of a field.
@@ -64,7 +71,7 @@ impl<'a> Cursor<'a> {
         ensures { HeadRead self.old result self.new }
     {
         self.accept(Item::Open)?;
-        let word = self.next_token()?.ok_or(FormFault::NoForm(self.end()))?;
+        let word = self.wanted()?;
         verb_in(word.token).ok_or(FormFault::NoForm(word.place + 1))
     }
 
