@@ -1,4 +1,4 @@
--- What is gathered of the values that are drawn: all of them, or the byte of the first that is outside its range.
+-- What is gathered of the values that are drawn: all of them, or the fault of the first that is outside its range.
 -- Assumes nothing.
 use Rattle.std.proofs.Common.{◌≡◌, ℕ, zero, suc, ◌+◌, ◌*◌, true, false, ◌&&◌, eqb, ◌⊎◌, List, [], ◌∷◌, get_or, drop, ℤ, pos, negsuc, nat_abs, Some, None, Ok, Err, Option, sym, refl, ap, ◌∙◌, inl, inr, ⊎_elim, arith}
 use lib.Signed.{le_z}
@@ -13,6 +13,8 @@ use Rattle.text.specs.Grammar.{Allowed, Between, Held, Off, Ranged, Values, With
 use Rattle.text.specs.Reading.{draft_of, formed, fresh, gather, hold, hold_number, take_in}
 use Rattle.text.specs.Tokens.{Placed, nothing, placed}
 use Rattle.text.specs.declared.draft.Draft.{Draft}
+use Rattle.text.specs.declared.fault.FormFault.{FormFault}
+use Rattle.text.specs.declared.fault.FormFault.TheVariants.{OutOfRange}
 use Rattle.text.specs.declared.form.Field.{Field}
 use Rattle.text.specs.declared.form.Field.TheVariants.{Asset, Award, Cents, Class as OfClass, Holder, Kw, Ready as IsReady}
 use Rattle.text.specs.declared.form.Form.{Form}
@@ -101,8 +103,8 @@ module _ (f : Field) (fs : List Field) (x : Held f) (vs : Values fs) (ts : List 
   rest_said : said (drop 4 ts) ≡ drawn_fields fs vs
   rest_said = sym (drop-map (λ t. t.symbol) 4 ts) ∙ ap (drop 4) e
 
-  took : (d : Draft) (o : Option Draft) → hold f (mark f x) d ≡ o → take_in f (get_or ts 2 (placed 0 nothing)) (Ok d) ≡ ok_or o (byte_of ts 2)
-  took d o held = ap (λ o. ok_or o (byte_of ts 2)) (ap (λ s. hold f s d) value_said ∙ held)
+  took : (d : Draft) (o : Option Draft) → hold f (mark f x) d ≡ o → take_in f (get_or ts 2 (placed 0 nothing)) (Ok d) ≡ ok_or o (OutOfRange (byte_of ts 2))
+  took d o held = ap (λ o. ok_or o (OutOfRange (byte_of ts 2))) (ap (λ s. hold f s d) value_said ∙ held)
 
 pub gather_ranged : (fs : List Field) (vs : Values fs) (ts : List Placed) (d : Draft) → said ts ≡ drawn_fields fs vs → AllByRecursion Numeric (drawn_fields fs vs) → Ranged fs vs
     → gather fs ts (Ok d) ≡ Ok (filled fs vs d)
@@ -111,20 +113,20 @@ gather_ranged (f ∷ fs) (x, vs) ts d e ns r =
     ap (gather fs (drop 4 ts)) (took f fs x vs ts e d _ (hold_within f x d ns.1.1.0 r.0))
     ∙ gather_ranged fs vs (drop 4 ts) (put f x d) (rest_said f fs x vs ts e) ns.1.1.1.1 r.1
 
-gather_kept : (fs : List Field) (ts : List Placed) (byte : ℕ) → gather fs ts (Err byte) ≡ Err byte
-gather_kept [] ts byte = refl
-gather_kept (f ∷ fs) ts byte = gather_kept fs (drop 4 ts) byte
+gather_kept : (fs : List Field) (ts : List Placed) (fault : FormFault) → gather fs ts (Err fault) ≡ Err fault
+gather_kept [] ts fault = refl
+gather_kept (f ∷ fs) ts fault = gather_kept fs (drop 4 ts) fault
 
 pub gather_off : (fs : List Field) (vs : Values fs) (ts : List Placed) (d : Draft) (i : ℕ) → said ts ≡ drawn_fields fs vs → AllByRecursion Numeric (drawn_fields fs vs) → Off fs vs i
-    → gather fs ts (Ok d) ≡ Err (byte_of ts (4 * i + 2))
+    → gather fs ts (Ok d) ≡ Err (OutOfRange (byte_of ts (4 * i + 2)))
 gather_off [] vs ts d i e ns off = absurd off
 gather_off (f ∷ fs) (x, vs) ts d zero e ns off =
-    ap (gather fs (drop 4 ts)) (took f fs x vs ts e d None (hold_outside f x d ns.1.1.0 off)) ∙ gather_kept fs (drop 4 ts) (byte_of ts 2)
+    ap (gather fs (drop 4 ts)) (took f fs x vs ts e d None (hold_outside f x d ns.1.1.0 off)) ∙ gather_kept fs (drop 4 ts) (OutOfRange (byte_of ts 2))
 gather_off (f ∷ fs) (x, vs) ts d (suc i) e ns off =
     ap (gather fs (drop 4 ts)) (took f fs x vs ts e d _ (hold_within f x d ns.1.1.0 off.0))
     ∙ gather_off fs vs (drop 4 ts) (put f x d) i (rest_said f fs x vs ts e) ns.1.1.1.1 off.1
-    ∙ ap (λ t. Err (t.place + 1)) (get_or-drop 4 ts (4 * i + 2) (placed 0 nothing))
-    ∙ ap (λ k. Err (byte_of ts k)) (omega arith)
+    ∙ ap (λ t. Err (OutOfRange (t.place + 1))) (get_or-drop 4 ts (4 * i + 2) (placed 0 nothing))
+    ∙ ap (λ k. Err (OutOfRange (byte_of ts k))) (omega arith)
 
 -- the form of a word and of values in their ranges
 

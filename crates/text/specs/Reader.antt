@@ -60,12 +60,12 @@ abbrev pub FieldRead : Cursor → Field → Result Next FormFault → Cursor →
 FieldRead before field (Ok next) after = Read before field next after
 FieldRead before field (Err fault) after = (is : List Item) → against (end_of before) (with_field field is) (left before) ≡ Some fault
 
-pub record Gone (before : Cursor) (fields : List Field) (gathered : Result Draft ℕ) (after : Cursor) : Type 0 where
+pub record Gone (before : Cursor) (fields : List Field) (gathered : Result Draft FormFault) (after : Cursor) : Type 0 where
   pub values : gathered ≡ gather fields (left before) (Ok fresh)
   pub passed : against (end_of before) (wanted_of fields) (left before) ≡ against (end_of before) (Closed ∷ []) (left after)
   pub same_end : end_of after ≡ end_of before
 
-abbrev pub FieldsRead : Cursor → List Field → Result (Result Draft ℕ) FormFault → Cursor → Type 0
+abbrev pub FieldsRead : Cursor → List Field → Result (Result Draft FormFault) FormFault → Cursor → Type 0
 FieldsRead before fields (Ok gathered) after = Gone before fields gathered after
 FieldsRead before fields (Err fault) after = against (end_of before) (wanted_of fields) (left before) ≡ Some fault
 

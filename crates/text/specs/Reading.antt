@@ -2,7 +2,7 @@
 --   fault_at    of a token that cannot stand where it stands
 --   against     of tokens where items are wanted: the first that does not fit, or that the line ends early (at byte `end`)
 --   hold        a draft with the value of a field in it; nothing where the value is outside its range
---   gather      the values of some fields, or the byte of the first that is outside its range
+--   gather      the values of some fields, or the fault of the first that is outside its range
 --   formed      the form of a word and of its values
 --   reading     a line as the reader takes it: first its length, then whether all is tokens, then their form, then the ranges
 -- Assumes nothing.
@@ -87,12 +87,12 @@ hold f nothing d = Some d
 abbrev pub fresh : Draft
 fresh = draft_of Delivery 0 0 (pos 0) 0 false 0
 
-abbrev pub take_in : Field → Placed → Result Draft ℕ → Result Draft ℕ
-take_in f t (Ok d) = ok_or (hold f t.symbol d) (t.place + 1)
-take_in f t (Err byte) = Err byte
+abbrev pub take_in : Field → Placed → Result Draft FormFault → Result Draft FormFault
+take_in f t (Ok d) = ok_or (hold f t.symbol d) (OutOfRange (t.place + 1))
+take_in f t (Err fault) = Err fault
 
 -- the value of a field is the third of its four tokens
-abbrev pub gather : List Field → List Placed → Result Draft ℕ → Result Draft ℕ
+abbrev pub gather : List Field → List Placed → Result Draft FormFault → Result Draft FormFault
 gather [] ts g = g
 gather (f ∷ fs) ts g = gather fs (drop 4 ts) (take_in f (slice_index_or ts 2 (placed 0 nothing)) g)
 
@@ -108,9 +108,9 @@ formed Close d = form.Close
 
 -- the line
 
-abbrev pub by_range : Verb → Result Draft ℕ → Result Form FormFault
+abbrev pub by_range : Verb → Result Draft FormFault → Result Form FormFault
 by_range v (Ok d) = Ok (formed v d)
-by_range v (Err byte) = Err (OutOfRange byte)
+by_range v (Err fault) = Err fault
 
 abbrev pub by_shape : Verb → List Placed → Option FormFault → Result Form FormFault
 by_shape v ts (Some fault) = Err fault

@@ -4,6 +4,7 @@ ghost use Rattle.text.specs.Next.{symbol_of};
 ghost use Rattle.text.specs.Reading.{formed, fresh, hold, hold_number, in_range, take_in, with_number};
 ghost use Rattle.text.specs.Tokens.{placed};
 
+use crate::fault::FormFault;
 use crate::form::{Field, Form, Verb};
 use crate::token::{Next, Token};
 use crate::words::class_named;
@@ -139,14 +140,16 @@ impl Draft {
     }
 }
 
-// What is gathered with one more field: the values, or the byte of the first that is out of its range.
+// What is gathered with one more field: the values, or the fault of the first that is out of its range.
 pub(crate) fn taken_in(
-    gathered: Result<Draft, usize>,
+    gathered: Result<Draft, FormFault>,
     field: Field,
     next: Next,
-) -> Result<Draft, usize>
+) -> Result<Draft, FormFault>
     ensures value { result ≡ take_in field (placed next.entry.place (symbol_of next.entry.token)) gathered }
 {
     let draft = gathered?;
-    draft.hold(field, next.token).ok_or(next.place + 1)
+    draft
+        .hold(field, next.token)
+        .ok_or(FormFault::OutOfRange(next.place + 1))
 }

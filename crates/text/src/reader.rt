@@ -54,8 +54,9 @@ impl<'a> Cursor<'a> {
         Ok(value)
     }
 
-    // The values of some fields, or the byte of the first that is out of its range.
-    fn read_fields(&mut self, fields: &[Field]) -> Result<Result<Draft, usize>, FormFault>
+    // The values of some fields, or the fault of the first that is out of its range. That fault is handed on, as one of the form
+    // comes before it, wherever it stands.
+    fn read_fields(&mut self, fields: &[Field]) -> Result<Result<Draft, FormFault>, FormFault>
         ensures { FieldsRead self.old fields.now result self.new }
     {
         let mut gathered = Ok(Draft::new());
@@ -93,9 +94,7 @@ fn read_behind(verb: Verb, mut part: Cursor) -> Result<Form, FormFault>
 {
     let gathered = part.read_fields(fields_of(verb))?;
     part.finish()?;
-    gathered
-        .map(|draft| draft.form(verb))
-        .map_err(FormFault::OutOfRange)
+    Ok(gathered?.form(verb))
 }
 
 // What the tokens of a line say, or the fault of the first that is wrong. The rest of the line, from its middle, is handed on.
