@@ -92,10 +92,9 @@ impl Draft {
         ensures value { result ≡ hold field (symbol_of token.entry) self }
     {
         match token {
-            Token::Word(word) => Some(match class_named(word) {
-                Some(class) => Draft { class, ..self },
-                None => self,
-            }),
+            Token::Word(word) => {
+                Some(class_named(word).map_or(self, |class| Draft { class, ..self }))
+            }
             Token::Number(number) => self.hold_number(field, number.value()),
             Token::Open | Token::Close => Some(self),
         }

@@ -4,6 +4,8 @@ ghost use Rattle.text.specs.declared.fault.Fault.TheVariants.{Book as ByBook, Fo
 ghost use Rattle.text.specs.declared.fault.FormFault.TheVariants.{Text as InText};
 ghost use Rattle.text.specs.Fault.{byte as byte_of, layer as layer_of, number as number_of};
 
+use crate::lexer::LINE_MOST;
+
 #[derive(Clone, Copy, Debug, PartialEq, Eq)]
 pub enum TextFault {
     // the input has more than 65,536 bytes
@@ -56,7 +58,7 @@ impl Fault {
     {
         match self {
             Fault::Form(FormFault::Text(TextFault::LongInput)) => 0,
-            Fault::Form(FormFault::Text(TextFault::LongLine)) => 301,
+            Fault::Form(FormFault::Text(TextFault::LongLine)) => LINE_MOST + 1,
             Fault::Form(
                 FormFault::Text(TextFault::NoToken(at))
                 | FormFault::NoForm(at)

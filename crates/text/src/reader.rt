@@ -97,7 +97,7 @@ fn read_behind(verb: Verb, mut part: Cursor) -> Result<Form, FormFault>
     Ok(gathered?.form(verb))
 }
 
-// What the tokens of a line say, or the fault of the first that is wrong. The rest of the line, from its middle, is handed on.
+// What the tokens of a line say, or the fault of the first that is wrong: the head of the form, then all behind it.
 fn read_tokens(mut line: Cursor) -> Result<Form, FormFault>
     ensures { result ≡ read_from line.entry }
 {
@@ -110,6 +110,7 @@ fn read_whole(line: &[u8]) -> Result<Form, FormFault>
     ensures value { result ≡ reading line.now }
 {
     let cursor = Cursor::new(line)?;
+    // matched, as the second reading can fail too, and its fault comes before the first's
     match read_tokens(cursor) {
         Ok(form) => Ok(form),
         Err(fault) => {
