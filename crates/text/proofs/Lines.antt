@@ -1,6 +1,7 @@
 -- A line, from its length to its form.
 -- Assumes nothing.
-use Rattle.std.proofs.Common.{◌≡◌, ℕ, ◌+◌, ◌≤◌, true, List, [], ◌∷◌, length, Some, None, Ok, Err, Option, sym, refl, ap, ◌∙◌, ⊎_elim, arith}
+use Rattle.std.proofs.Common.{◌≡◌, ℕ, ◌+◌, ◌≤◌, true, List, [], ◌∷◌, length, Some, None, Ok, Err, Option, sym, refl, ap, ◌∙◌, ⊎_elim}
+use Rattle.std.proofs.Math.Nat.{suc-ne-zero}
 use Rattle.std.proofs.lemmas.Option.{none-some}
 use Rattle.std.proofs.lemmas.Bool.{cases_Bool, cond-false, cond-true, false≢true, le-ltb}
 use Rattle.text.specs.Forms.{fits, is_opening, verb_of, wanted}
@@ -38,7 +39,7 @@ fits_some (Value Cents) place nothing later e = absurd (false≢true e)
 fits_some Closed place nothing later e = absurd (false≢true e)
 
 err≢ok : {fault : FormFault} {f : Form} → Err fault ≡ Ok f → ⊥
-err≢ok e = let z : ◌≡◌ {A = ℕ} 0 1 = cc in omega arith
+err≢ok e = suc-ne-zero 0 cc
 
 -- items that are all met leave nothing that is no token
 met_all : (end : ℕ) (is : List Item) (ts : List Placed) → against end is ts ≡ None → first_nothing ts ≡ None

@@ -1,6 +1,7 @@
 -- A number and its text.
 -- Assumes nothing.
 use Rattle.std.proofs.Common.{◌≡◌, ℕ, zero, suc, ◌+◌, ◌*◌, ◌/◌, ◌%◌, ◌^◌, ◌<◌, ◌≤◌, true, false, not, ◌||◌, eqb, leb, List, [], ◌∷◌, length, get_or, ℤ, pos, negsuc, neg_ℤ, decimal, sym, refl, ap, ◌∙◌, subst, ⊎_elim, pow-suc, arith, lit<, rules}
+use Rattle.std.proofs.Math.Nat.{suc-ne-zero}
 use native.Mathlib.Nat.{one-le-pow}
 use lib.Signed.{mag}
 use Rattle.std.specs.Fmt.{digits as written_digits, digit_glyph, signed_decimal, digits_onto as spelt}
@@ -73,7 +74,7 @@ plain_value : (bs : List ℕ) → (get_or bs 0 0 ≡ 45 → ⊥) → value bs �
 plain_value bs plain = cond-false _ _ _ (ne_eqb (get_or bs 0 0) 45 plain)
 
 no_minus : (bs : List ℕ) → digits bs ≡ true → get_or bs 0 0 ≡ 45 → ⊥
-no_minus [] h e = let z : ◌≡◌ {A = ℕ} 0 1 = cc in omega arith
+no_minus [] h e = suc-ne-zero 0 cc
 no_minus (b ∷ bs) h e = let low = (digit_bounds b (and_parts _ _ h).0).0 in omega arith
 
 -- a number, with a minus or without

@@ -1,6 +1,7 @@
 -- An input has one transcript.
 -- Assumes nothing.
 use Rattle.std.proofs.Common.{◌≡◌, ℕ, List, [], ◌∷◌, ◌++◌, length, ℤ, Some, None, Option, sym, refl, ap, ◌∙◌, subst, arith}
+use Rattle.std.proofs.Math.Nat.{suc-ne-zero}
 use Rattle.std.proofs.lemmas.List.{length_push, same_from_push}
 use Rattle.payment.specs.Stand.{Stand}
 use Rattle.book.specs.Account.{opened}
@@ -71,13 +72,11 @@ module _ (serves : ℕ) (rule : ℕ → List ℕ → List ℕ) (pays : Stand →
         record { prints = cc (i.prints, parts.0); makes = i.makes; leaves = i.leaves }
     session_one (faulty {ls = ls} x l fault reads) (made {ls = ls'} y l' form event s' reads' asks step) e =
         let parts = same_from_push ls ls' l l' e in
-        let z : ◌≡◌ {A = ℕ} 0 1 = cc (ap reading parts.1) in
-        absurd (omega arith)
+        absurd (suc-ne-zero 0 (cc (ap reading parts.1)))
     session_one (made {ls = ls} x l form event s reads asks step) begun e = absurd (never_empty ls l (sym e))
     session_one (made {ls = ls} x l form event s reads asks step) (faulty {ls = ls'} y l' fault reads') e =
         let parts = same_from_push ls ls' l l' e in
-        let z : ◌≡◌ {A = ℕ} 0 1 = cc (ap reading parts.1) in
-        absurd (omega arith)
+        absurd (suc-ne-zero 0 (cc (ap reading parts.1)))
     session_one (made {ls = ls} {s = s} x l form event s₁ reads asks step) (made {ls = ls'} {s = s'} y l' form' event' s₂ reads' asks' step') e =
         let parts = same_from_push ls ls' l l' e in
         let i = session_one x y parts.0 in

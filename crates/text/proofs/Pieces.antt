@@ -34,7 +34,7 @@ of_run Blank = false
 of_run Part = true
 of_run Foreign = false
 
-pub sort_part : (b : ℕ) → sort b ≡ Part → part b ≡ true
+sort_part : (b : ℕ) → sort b ≡ Part → part b ≡ true
 sort_part b e = ⊎_elim (λ p. p) (λ p. absurd (both_ways (of_run (sort b)) (no_run p) (ap of_run e))) (cases_Bool (part b))
   where
     no_run : part b ≡ false → of_run (sort b) ≡ false

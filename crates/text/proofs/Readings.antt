@@ -1,6 +1,7 @@
 -- A line is read as the grammar says, and in no other way.
 -- Assumes nothing.
 use Rattle.std.proofs.Common.{◌≡◌, ℕ, suc, ◌+◌, ◌*◌, ◌<◌, List, [], ◌∷◌, length, get_or, take, drop, Ok, Err, Result, sym, refl, ap, ◌∙◌, subst, ⊎_elim, add-one, arith}
+use Rattle.std.proofs.Math.Nat.{suc-ne-zero}
 use Rattle.std.specs.List.{AllByRecursion}
 use Rattle.std.proofs.ByRecursion.{All-take}
 use Rattle.std.proofs.lemmas.List.{drop-map, get_or-drop, take-take}
@@ -25,8 +26,8 @@ use Rattle.text.proofs.Ways.{LeadsForm, Meets, Shape, against_met, broken_form, 
 
 drawn_read : (end : ℕ) (ts : List Placed) (v : Verb) (vs : Values (fields v)) → said ts ≡ drawn v vs
     → form_in end ts ≡ by_range v (gather (fields v) (drop 2 ts) (Ok fresh))
-drawn_read end [] v vs e = absurd (let z : ◌≡◌ {A = ℕ} 0 1 = cc in omega arith)
-drawn_read end (t ∷ []) v vs e = absurd (let z : ◌≡◌ {A = ℕ} 0 1 = cc in omega arith)
+drawn_read end [] v vs e = absurd (suc-ne-zero 0 cc)
+drawn_read end (t ∷ []) v vs e = absurd (suc-ne-zero 0 cc)
 drawn_read end (t ∷ u ∷ ts) v vs e =
     let rest : said ts ≡ drawn_fields (fields v) vs = ap (drop 2) e in
     cond-true _ _ _ (ap (λ ss. is_opening (get_or ss 0 nothing)) e)

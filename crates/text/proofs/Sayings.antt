@@ -1,6 +1,7 @@
 -- The line that is written of a form has its symbols.
 -- Assumes nothing.
 use Rattle.std.proofs.Common.{◌≡◌, ℕ, zero, suc, ◌+◌, ◌*◌, ◌^◌, ◌<◌, ◌≤◌, Bool, true, false, ◌&&◌, eqb, leb, List, [], ◌∷◌, ◌++◌, length, get_or, drop, ℤ, pos, negsuc, neg_ℤ, ◌≤ℤ◌, sym, refl, ap, ◌∙◌, subst, ⊎_elim, arith}
+use Rattle.std.proofs.Math.Nat.{suc-ne-zero}
 use lib.Signed.{mag}
 use Rattle.std.specs.Fmt.{signed_decimal}
 use Rattle.std.specs.List.{flat_map, AllByRecursion}
@@ -157,10 +158,10 @@ tail_bytes : (name value : List ℕ) (fs : List (List ℕ × List ℕ)) → tail
 tail_bytes name value fs = append_assoc (field (name, value)) (flat_map field fs) (41 ∷ []) ∙ field_bytes name value (tail fs)
 
 blank_stops : (bs : List ℕ) → Stops (32 ∷ bs)
-blank_stops bs e = let z : ◌≡◌ {A = ℕ} 0 1 = cc in omega arith
+blank_stops bs e = suc-ne-zero 0 cc
 
 closing_stops : (bs : List ℕ) → Stops (41 ∷ bs)
-closing_stops bs e = let z : ◌≡◌ {A = ℕ} 0 1 = cc in omega arith
+closing_stops bs e = suc-ne-zero 0 cc
 
 tail_stops : (fs : List (List ℕ × List ℕ)) → Stops (tail fs)
 tail_stops [] = closing_stops []
@@ -185,22 +186,22 @@ says_line f s =
 -- none of its symbols is nothing
 
 mark_some : (f : Field) (x : Held f) → mark f x ≡ nothing → ⊥
-mark_some OfClass class e = let z : ◌≡◌ {A = ℕ} 0 1 = cc in omega arith
-mark_some Asset x e = let z : ◌≡◌ {A = ℕ} 0 1 = cc in omega arith
-mark_some Holder x e = let z : ◌≡◌ {A = ℕ} 0 1 = cc in omega arith
-mark_some Award x e = let z : ◌≡◌ {A = ℕ} 0 1 = cc in omega arith
-mark_some Kw x e = let z : ◌≡◌ {A = ℕ} 0 1 = cc in omega arith
-mark_some IsReady x e = let z : ◌≡◌ {A = ℕ} 0 1 = cc in omega arith
-mark_some Cents x e = let z : ◌≡◌ {A = ℕ} 0 1 = cc in omega arith
+mark_some OfClass class e = suc-ne-zero 0 cc
+mark_some Asset x e = suc-ne-zero 0 cc
+mark_some Holder x e = suc-ne-zero 0 cc
+mark_some Award x e = suc-ne-zero 0 cc
+mark_some Kw x e = suc-ne-zero 0 cc
+mark_some IsReady x e = suc-ne-zero 0 cc
+mark_some Cents x e = suc-ne-zero 0 cc
 
 opening_some : opening ≡ nothing → ⊥
-opening_some e = let z : ◌≡◌ {A = ℕ} 0 1 = cc in omega arith
+opening_some e = suc-ne-zero 0 cc
 
 closing_some : closing ≡ nothing → ⊥
-closing_some e = let z : ◌≡◌ {A = ℕ} 0 1 = cc in omega arith
+closing_some e = suc-ne-zero 0 cc
 
 worded_some : {bs : List ℕ} → worded bs ≡ nothing → ⊥
-worded_some e = let z : ◌≡◌ {A = ℕ} 0 1 = cc in omega arith
+worded_some e = suc-ne-zero 0 cc
 
 fields_some : (fs : List Field) (vs : Values fs) → AllByRecursion (λ s. s ≡ nothing → ⊥) (drawn_fields fs vs)
 fields_some [] vs = (closing_some, tt)

@@ -24,7 +24,7 @@ all_put {a = a} none = sym (append-nil a)
 all_put {a = a} (more {piece = piece} {pieces = pieces} p q) = joined a piece (concat pieces) p (all_put q)
 
 -- the pieces of a line that has begun: each field with what stands before its value, and the end of the line
-abbrev pub pieces_of : List ℕ → List (List ℕ × List ℕ) → List (List ℕ)
+abbrev pieces_of : List ℕ → List (List ℕ × List ℕ) → List (List ℕ)
 pieces_of before [] = (before ++ codes ")" ++ 10 ∷ []) ∷ []
 pieces_of before ((name, value) ∷ fields) = (before ++ codes " (" ++ name ++ codes " " ++ value) ∷ pieces_of (codes ")") fields
 

@@ -1,6 +1,7 @@
 -- The tokens of a line: the numbers among them, and the first that is none.
 -- Assumes nothing.
 use Rattle.std.proofs.Common.{◌≡◌, ℕ, zero, suc, ◌<◌, cond, ◌⊎◌, List, [], ◌∷◌, map, length, get_or, take, Some, None, Option, sym, refl, ap, ◌∙◌, inl, inr, ⊎_elim, arith}
+use Rattle.std.proofs.Math.Nat.{suc-ne-zero}
 use Rattle.std.specs.List.{AllByRecursion}
 use Rattle.std.proofs.lemmas.Option.{none-some}
 use Rattle.std.proofs.lemmas.Bool.{cond_both}
@@ -36,10 +37,10 @@ tokens_numeric place bs = pieces_numeric (pieces place bs)
 -- the first that is none
 
 nothing_or_not : (s : Symbol) → (s ≡ nothing) ⊎ (s ≡ nothing → ⊥)
-nothing_or_not opening = inr (λ e. let z : ◌≡◌ {A = ℕ} 0 1 = cc in omega arith)
-nothing_or_not closing = inr (λ e. let z : ◌≡◌ {A = ℕ} 0 1 = cc in omega arith)
-nothing_or_not (worded bs) = inr (λ e. let z : ◌≡◌ {A = ℕ} 0 1 = cc in omega arith)
-nothing_or_not (number bs) = inr (λ e. let z : ◌≡◌ {A = ℕ} 0 1 = cc in omega arith)
+nothing_or_not opening = inr (λ e. suc-ne-zero 0 cc)
+nothing_or_not closing = inr (λ e. suc-ne-zero 0 cc)
+nothing_or_not (worded bs) = inr (λ e. suc-ne-zero 0 cc)
+nothing_or_not (number bs) = inr (λ e. suc-ne-zero 0 cc)
 nothing_or_not nothing = inl refl
 
 stray_other : (s : Symbol) (place : ℕ) (later : Option ℕ) → (s ≡ nothing → ⊥) → stray place s later ≡ later

@@ -59,7 +59,7 @@ way end (i ∷ is) (t ∷ ts) all =
 
 -- the same of a whole form
 
-abbrev pub Headed : Symbol → Symbol → (List Item → Type 0) → Type 0
+abbrev Headed : Symbol → Symbol → (List Item → Type 0) → Type 0
 Headed s u P = (is_opening s ≡ true) × ((v : Verb) × (verb_of u ≡ Some v) × P (wanted v))
 
 abbrev pub MeetsForm : List Symbol → Type 0
