@@ -1,7 +1,7 @@
 #!/usr/bin/env python3
-"""Finds the places of the design pass in src/: python3 tools/places.py [TREE] [POINT..]
+"""Finds the places of the design pass in src/: python3 tools/places.py [TREE] [KIND..]
 
-Each line is a place, `POINT kind  file:line  text`; the last lines are the counts. Files of tests count as the rest does.
+The kinds are numbered as in docs/DESIGN-PASS.md. Each line is a place, `KIND what  file:line  text`; the last lines are the counts. Files of tests count as the rest does.
 """
 import collections
 import glob
@@ -23,7 +23,7 @@ def line_of(text, at):
 
 
 PATTERNS = [
-    # (point, kind, expression over the whole file)
+    # (kind, what, expression over the whole file)
     (1, "a result turned by hand", r"Err\((\w+)\) => Err\(\1\)|Ok\((\w+)\) => Ok\(\2\)|Ok\(\(\)\) => Ok\("),
     (1, "an option turned to a result by hand", r"Some\((\w+)\) => Ok\(|None => Err\(|let Some\([^;{}]*? else \{\s*return Err\("),
     (1, "an option turned to an option by hand", r"None => return None|Some\((\w+)\) => Some\(\1\)|let Some\([^;{}]*? else \{\s*return None"),
@@ -106,7 +106,7 @@ for path in sorted(glob.glob(os.path.join(tree, "crates/*/src/**/*.rt"), recursi
             place(point, kind, short, line_of(text, hit.start()), hit.group(0))
     for hit in re.finditer(r"\bstruct (\w+)[^{;(]*\{(.*?)\n\}", text, re.S):
         fields = re.sub(r"//[^\n]*|\bpub\b", "", hit.group(2))
-        fields = [" ".join(f.split()) for f in fields.split(",\n") if f.strip() and not f.strip().startswith("ghost")]
+        fields = [" ".join(f.split()).rstrip(",") for f in fields.split(",\n") if f.strip() and not f.strip().startswith("ghost")]
         if len(fields) > 1:
             types[tuple(sorted(fields))].append((short, line_of(text, hit.start()), hit.group(1)))
     for name, line, params, clauses, body in functions(path, text):
@@ -157,4 +157,4 @@ for (point, kind), places in sorted(found.items()):
 for (point, kind), places in sorted(found.items()):
     if not wanted or str(point) in wanted:
         print(f"count {point} {kind}: {len(places)}")
-print("in all: " + ", ".join(f"point {p}: {n}" for p, n in sorted(counts.items())))
+print("in all: " + ", ".join(f"kind {p}: {n}" for p, n in sorted(counts.items())))
