@@ -21,18 +21,6 @@ fn shares_of<R: SharingRule>(
     Ok(places)
 }
 
-// The shares pro rata, and those by rank.
-fn by_both(
-    pool: u64,
-    claims: &[u64],
-    places: Vec<u64>,
-    more_places: Vec<u64>,
-) -> Result<(Vec<u64>, Vec<u64>), Refusal> {
-    let parts = shares_of(&ProRata, pool, claims, places)?;
-    let ranked = shares_of(&ByRank, pool, claims, more_places)?;
-    Ok((parts, ranked))
-}
-
 // What of a pool the shares leave.
 fn residue(pool: u64, shares: &[u64]) -> u64
     ensures value { result ≡ pool - sum shares.now }
@@ -72,20 +60,25 @@ fn print_due(rt: &HostRuntime, due: &Due) -> io::Result<()> {
     )
 }
 
+fn print_refused(rt: &HostRuntime, pool: u64, why: Refusal) -> anyhow::Result<()> {
+    let number = why.number();
+    println!(rt; "the pool of {pool} cannot be shared (refusal {number}); nothing is worked")?;
+    Ok(())
+}
+
 pub fn print_month(rt: &HostRuntime, month: &Month) -> anyhow::Result<()> {
     let pool = month.pool;
     let claims = month.claims.as_slice();
+    // The second list is made when the first is shared: a month that is refused holds one list at a time.
     let places = vec![in rt.alloc(); 0; claims.len()]?;
-    let more_places = places.clone()?;
-    let (parts, ranked) = match by_both(pool, claims, places, more_places) {
-        Ok(shares) => shares,
-        Err(why) => {
-            let number = why.number();
-            println!(rt;
-                "the pool of {pool} cannot be shared (refusal {number}); nothing is worked"
-            )?;
-            return Ok(());
-        }
+    let parts = match shares_of(&ProRata, pool, claims, places) {
+        Ok(parts) => parts,
+        Err(why) => return print_refused(rt, pool, why),
+    };
+    let places = vec![in rt.alloc(); 0; claims.len()]?;
+    let ranked = match shares_of(&ByRank, pool, claims, places) {
+        Ok(ranked) => ranked,
+        Err(why) => return print_refused(rt, pool, why),
     };
     println!(rt; "pool {pool}")?;
     print_claims(rt, claims, &parts, &ranked)?;
