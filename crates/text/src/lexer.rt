@@ -82,7 +82,8 @@ impl<'a> Cursor<'a> {
         self.at + self.rest.len() + 1
     }
 
-    // The next token, or nothing where only blanks are left.
+    // The next token, or nothing where only blanks are left. Inlined, since a line is read by it token by token.
+    #[inline(always)]
     pub(crate) fn next_token(&mut self) -> Result<Option<Next<'a>>, TextFault>
         ensures { Given self.old result self.new }
     {
