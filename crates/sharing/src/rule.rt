@@ -57,8 +57,8 @@ pub trait Seats<const N: usize>: SharingRule {
 fn total(claims: &[u64]) -> Option<u64>
     ensures value { result ≡ (if nat_le (sum claims.now) most_cents then Some (sum claims.now) else None) }
 {
-    claims
-        .iter()
-        .try_fold(0u64, |sum, claim| sum.checked_add(*claim))
-        .filter(|sum| *sum <= MOST_CENTS)
+    claims.iter().try_fold(
+        0u64,
+        |sum, claim| sum.checked_add(*claim).filter(|sum| *sum <= MOST_CENTS),
+    )
 }
